@@ -1,0 +1,108 @@
+// Bytes and bits: reading a bit or a window of bits, testing that no bit stands past a count, appending bits.
+// The contracts cite Bits of specs/.
+ghost use mathlib.Core.Path.{_≡_};
+ghost use Prim.Native.Nat.{ℕ, _+_, _*_, _<_, _≤_, _%_, _^_};
+ghost use lib.ListN.{length, getD, set};
+ghost use lib.Dec.{ltb};
+ghost use Rattle.bits.specs.Bits.{num, digits, bitAt, window};
+ghost use Rattle.bits.specs.Adding.{WordFits, MoreFits};
+
+pub fn wide(x: u8) -> usize
+    ensures { λ r. ⌜ (r ≡ x) × (r < 256) ⌝ }
+{
+    x as usize
+}
+
+// A byte, 0 past the end.
+pub fn byte_at(bytes: &[u8], j: usize) -> usize
+    ensures { λ r. ⌜ (r ≡ getD (now (bytes .entry)) j 0) × (r < 256) ⌝ }
+{
+    if j < bytes.len() { wide(bytes[j]) } else { 0 }
+}
+
+// Bit i, 0 past the end.
+pub fn bit_at(bytes: &[u8], i: usize) -> usize
+    ensures { λ r. ⌜ r ≡ bitAt (now (bytes .entry)) i ⌝ }
+{
+    let byte = byte_at(bytes, i / 8);
+    let k = i % 8;
+    (byte >> k) % 2
+}
+
+// The lowest m bits of x.
+fn low(x: usize, m: usize) -> usize
+    requires { ⌜ m < 64 ⌝ }
+    ensures { λ r. ⌜ r ≡ x % 2 ^ m ⌝ }
+{
+    x % (1 << m)
+}
+
+// Bits i to i + m - 1, zeros past the end. Not an entry point: its callers in other crates show that m is small.
+pub fn bits_from(bytes: &[u8], i: usize, m: usize) -> usize
+    requires { ⌜ (i < 2 ^ 62) × (m ≤ 32) ⌝ }
+    ensures { λ r. ⌜ r ≡ window (now (bytes .entry)) i m ⌝ }
+{
+    let j = i / 8;
+    let a = byte_at(bytes, j);
+    let b = byte_at(bytes, j + 1);
+    let c = byte_at(bytes, j + 2);
+    let d = byte_at(bytes, j + 3);
+    let e = byte_at(bytes, j + 4);
+    let all = a + 256 * b + 65536 * c + 16777216 * d + 4294967296 * e;
+    let k = i % 8;
+    low(all >> k, m)
+}
+
+// Whether the number of the bytes, lowest first, is below 2 to the count: no bit at or past the count is set.
+pub fn fits(bytes: &[u8], count: usize) -> bool
+    ensures { λ r. ⌜ r ≡ ltb (num 256 (now (bytes .entry))) (2 ^ count) ⌝ }
+{
+    let mut left = count;
+    let mut i = 0;
+    while i < bytes.len() {
+        if left < 8 {
+            if wide(bytes[i]) >> left != 0 {
+                return false;
+            }
+            left = 0;
+        } else {
+            left -= 8;
+        }
+        i += 1;
+    }
+    true
+}
+
+fn add_byte(bytes: &mut [u8], i: usize, d: usize)
+    requires { ⌜ (i < length (now bytes)) × (getD (now bytes) i 0 + d < 256) ⌝ }
+    ensures { λ _. ⌜ now (bytes .exit) ≡ set (now (bytes .entry)) i (getD (now (bytes .entry)) i 0 + d) ⌝ }
+{
+    bytes[i] = (wide(bytes[i]) + d) as u8;
+}
+
+// Adds a word of two bytes at byte i.
+fn add_word(bytes: &mut [u8], i: usize, w: usize)
+    requires { ⌜ WordFits (now bytes) i w ⌝ }
+    ensures { λ _. ⌜ (length (now (bytes .exit)) ≡ length (now (bytes .entry))) × (num 256 (now (bytes .exit)) ≡ num 256 (now (bytes .entry)) + 256 ^ i * w) ⌝ }
+{
+    add_byte(bytes, i, w % 256);
+    let high = w / 256;
+    if high != 0 {
+        add_byte(bytes, i + 1, high);
+    }
+}
+
+// Adds the bits of `more` to `bytes`, which hold `have` bits. Not an entry point: its callers in other crates show that there is room.
+pub fn add_bits(bytes: &mut [u8], have: usize, more: &[u8])
+    requires { ⌜ MoreFits (now bytes) have (now more) ⌝ }
+    ensures { λ _. ⌜ now (bytes .exit) ≡ digits 256 (length (now (bytes .entry))) (num 256 (now (bytes .entry)) + 2 ^ have * num 256 (now (more .entry))) ⌝ }
+{
+    let shift = have % 8;
+    let from = have / 8;
+    let mut j = 0;
+    while j < more.len() {
+        let w = wide(more[j]) << shift;
+        add_word(bytes, from + j, w);
+        j += 1;
+    }
+}

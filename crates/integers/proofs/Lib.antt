@@ -1,0 +1,10 @@
+-- The laws on numbers that proofs of every crate cite.
+pub mod Parts
+pub mod Ring
+pub mod Order
+pub mod Parity
+pub mod Sizes
+pub mod Log2
+pub mod Finite
+pub mod Coprime
+pub mod Modulo

@@ -1,0 +1,2 @@
+-- The root of the specs: the words on numbers that contracts of every crate cite.
+pub mod Numbers
