@@ -1,0 +1,2 @@
+-- The laws on fractions.
+pub mod Limits

@@ -1,0 +1,4 @@
+-- The root of the specs: Pairs has the words on fractions, Expansion the bits of one, Answers what the public functions answer.
+pub mod Pairs
+pub mod Expansion
+pub mod Answers
