@@ -1,2 +1,3 @@
--- The laws on fractions.
+-- The laws on fractions: Limits as code tests them, Numerators of an expansion.
 pub mod Limits
+pub mod Numerators
