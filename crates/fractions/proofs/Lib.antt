@@ -1,3 +1,6 @@
--- The laws on fractions: Limits as code tests them, Numerators of an expansion.
+-- The laws on fractions: Limits as code tests them, Numerators of an expansion, Same (when two pairs are one fraction), Lowest terms, Order and the smallest pair.
 pub mod Limits
 pub mod Numerators
+pub mod Same
+pub mod Lowest
+pub mod Order

@@ -1,0 +1,102 @@
+-- Lowest terms.
+--
+--   part            z divided by d, where d divides its size
+--   odd-left        a factor of an odd number is odd
+--   multiple        a fraction that is p/q, p/q in lowest terms, is a multiple of it
+--   lowest-same     two pairs in lowest terms that are the same fraction are the same pair
+--   lowest-unique   so the lowest terms of a fraction are one pair
+--   power-coprime   what divides both of two numbers of a combination that is a power of two, one of them odd, is 1
+use mathlib.Core.Path.{_≡_, refl, sym, ap, ap₂, _∙_, subst}
+use Prim.Native.Nat.{ℕ, zero, suc, _+_, _*_, _/_, _%_, _^_, _≤_, _<_}
+use native.Mathlib.Omega.{arith}
+use native.Mathlib.Nat.{pow-succ', mul-mod-right, mul-comm, eq-of-mul-eq-mul-right}
+use lib.IntN.{ℤ, pos, negsuc, negℤ, natAbs, _-ℤ_, _*ℤ_}
+use Rattle.integers.specs.Numbers.{Coprime}
+use Rattle.integers.proofs.Parts.{natAbs-*}
+use Rattle.integers.proofs.Coprime.{quot, euclid}
+use Rattle.integers.proofs.Ring.{neg, _⊗_, ring2, ring3, _≔_}
+use Rattle.fractions.specs.Pairs.{LowestTerms, SameFraction, Lowest}
+use Rattle.fractions.proofs.Same.{cancel}
+
+-- z divided by d, where d divides its size
+pub part : (d : ℕ) (z : ℤ) → natAbs z % d ≡ 0 → (y : ℤ) × ((z ≡ pos d *ℤ y) × (natAbs z ≡ d * natAbs y))
+part d (pos a) h = (pos (a / d), (ap pos (quot d a h), quot d a h))
+part d (negsuc a) h = (negℤ (pos (suc a / d)), (e, ap natAbs e ∙ natAbs-* (pos d) (negℤ (pos (suc a / d)))))
+  where
+    e : negsuc a ≡ pos d *ℤ negℤ (pos (suc a / d))
+    e = ap (λ (n : ℕ). negℤ (pos n)) (quot d (suc a) h) ∙ ring2 (λ d m. neg (d ⊗ m) ≔ d ⊗ neg m) tt (pos d) (pos (suc a / d))
+
+-- both factors of an odd number are odd
+pub odd-left : (d c : ℕ) → (d * c) % 2 ≡ 1 → d % 2 ≡ 1
+odd-left d c h = go (d % 2) refl
+  where
+    go : (r : ℕ) → d % 2 ≡ r → d % 2 ≡ 1
+    go zero e = let k : d ≡ 2 * (d / 2) = omega arith in absurd (omega (arith, ap (λ (n : ℕ). n * c) k))
+    go (suc r) e = omega arith
+
+-- ---- two fractions that are the same, the first in lowest terms: the second is a multiple of it
+pub record Multiple (p : ℤ) (q : ℕ) (p' : ℤ) (q' : ℕ) : Type 0 where
+  pub m : ℕ
+  pub q-is : q' ≡ q * m
+  pub p-is : natAbs p' ≡ natAbs p * m
+
+abs-same : (p : ℤ) (q : ℕ) (p' : ℤ) (q' : ℕ) → p *ℤ pos q' ≡ p' *ℤ pos q → natAbs p * q' ≡ natAbs p' * q
+abs-same p q p' q' h = sym (natAbs-* p (pos q')) ∙ ap natAbs h ∙ natAbs-* p' (pos q)
+
+pub multiple : (p : ℤ) (q : ℕ) (p' : ℤ) (q' : ℕ) → 1 ≤ q → LowestTerms p q → SameFraction p q p' q' → Multiple p q p' q'
+multiple p q p' q' s co h = record { m = q' / q; q-is = d; p-is = eq-of-mul-eq-mul-right q s (natAbs p') (natAbs p * (q' / q)) (omega (arith, e, ap (λ (n : ℕ). natAbs p * n) d)) }
+  where
+    e : natAbs p * q' ≡ natAbs p' * q
+    e = abs-same p q p' q' h
+
+    d : q' ≡ q * (q' / q)
+    d = quot q q' (euclid q (natAbs p) q' s co (ap (λ (n : ℕ). n % q) (mul-comm q' (natAbs p) ∙ e ∙ mul-comm (natAbs p') q) ∙ mul-mod-right q (natAbs p')))
+
+-- ---- both in lowest terms: the same pair
+pub p-same : (p p' : ℤ) (q : ℕ) → 1 ≤ q → p *ℤ pos q ≡ p' *ℤ pos q → p ≡ p'
+p-same p p' q s h = cancel q p p' s (ring2 (λ q p. q ⊗ p ≔ p ⊗ q) tt (pos q) p ∙ h ∙ ring2 (λ q p. p ⊗ q ≔ q ⊗ p) tt (pos q) p')
+
+pub lowest-same : (p : ℤ) (q : ℕ) (p' : ℤ) (q' : ℕ) → 1 ≤ q → 1 ≤ q' → LowestTerms p q → LowestTerms p' q' → p *ℤ pos q' ≡ p' *ℤ pos q → (p ≡ p') × (q ≡ q')
+lowest-same p q p' q' s s' co co' h = (p-same p p' q s (ap (λ (n : ℕ). p *ℤ pos n) eq ∙ h), eq)
+  where
+    each : (a b x y : ℕ) → b ≡ a * x → a ≡ b * y → 1 ≤ a → 1 ≤ b → a ≤ b
+    each a b zero y e f s t = absurd (omega arith)
+    each a b (suc x) y e f s t = omega arith
+
+    eq : q ≡ q'
+    eq = let u = multiple p q p' q' s co h in
+        let v = multiple p' q' p q s' co' (sym h) in
+        omega (arith, each q q' (u .m) (v .m) (u .q-is) (v .q-is) s s', each q' q (v .m) (u .m) (v .q-is) (u .q-is) s' s)
+
+-- two fractions that are the same as a third, whose q is not 0
+same-trans : (p : ℤ) (q : ℕ) (p₁ : ℤ) (q₁ : ℕ) (p₂ : ℤ) (q₂ : ℕ) → 1 ≤ q → SameFraction p q p₁ q₁ → SameFraction p q p₂ q₂ → SameFraction p₁ q₁ p₂ q₂
+same-trans p q p₁ q₁ p₂ q₂ s h k = cancel q (p₁ *ℤ pos q₂) (p₂ *ℤ pos q₁) s
+    (ring3 (λ q x y. q ⊗ (x ⊗ y) ≔ x ⊗ q ⊗ y) tt (pos q) p₁ (pos q₂) ∙ ap (λ (z : ℤ). z *ℤ pos q₂) (sym h)
+    ∙ ring3 (λ x y z. x ⊗ y ⊗ z ≔ x ⊗ z ⊗ y) tt p (pos q₁) (pos q₂) ∙ ap (λ (z : ℤ). z *ℤ pos q₁) k
+    ∙ ring3 (λ q x y. x ⊗ q ⊗ y ≔ q ⊗ (x ⊗ y)) tt (pos q) p₂ (pos q₁))
+
+pub lowest-unique : (p : ℤ) (q : ℕ) (p₁ : ℤ) (q₁ : ℕ) (p₂ : ℤ) (q₂ : ℕ) → 1 ≤ q → Lowest p q p₁ q₁ → Lowest p q p₂ q₂ → (p₁ ≡ p₂) × (q₁ ≡ q₂)
+lowest-unique p q p₁ q₁ p₂ q₂ s h k =
+    lowest-same p₁ q₁ p₂ q₂ (h .some) (k .some) (h .lowest) (k .lowest) (same-trans p q p₁ q₁ p₂ q₂ s (h .same) (k .same))
+
+-- ---- what divides both of two numbers of a combination that is a power of two, one of them odd, is 1
+odd-one : (n d e : ℕ) → d % 2 ≡ 1 → d * e ≡ 2 ^ n → d ≡ 1
+odd-one zero zero e o h = absurd (omega arith)
+odd-one zero (suc zero) e o h = refl
+odd-one zero (suc (suc d)) zero o h = absurd (omega arith)
+odd-one zero (suc (suc d)) (suc e) o h = absurd (omega arith)
+odd-one (suc n) d e o h = odd-one n d (e / 2) o (omega (arith, pow-succ' 2 n, two, h, ap (λ (m : ℕ). d * m) two))
+  where
+    even : (r : ℕ) → e % 2 ≡ r → e % 2 ≡ 0
+    even zero k = k
+    even (suc r) k =
+        let a : d ≡ 2 * (d / 2) + 1 = omega arith in
+        let b : e ≡ 2 * (e / 2) + 1 = omega arith in
+        absurd (omega (arith, h, pow-succ' 2 n, ap (λ (m : ℕ). m * e) a, ap (λ (m : ℕ). (2 * (d / 2) + 1) * m) b))
+
+    two : e ≡ 2 * (e / 2)
+    two = omega (arith, even (e % 2) refl)
+
+pub power-coprime : (n q r x y : ℕ) → q % 2 ≡ 1 → q * x + y * r ≡ 2 ^ n → Coprime q r
+power-coprime n q r x y o h d hq hr = odd-one n d (q / d * x + y * (r / d)) (odd-left d (q / d) (ap (λ (m : ℕ). m % 2) (sym (quot d q hq)) ∙ o))
+    (omega (arith, h, ap (λ (m : ℕ). m * x) (quot d q hq), ap (λ (m : ℕ). y * m) (quot d r hr)))
