@@ -1,6 +1,9 @@
--- The laws on fractions: Limits as code tests them, Numerators of an expansion, Same (when two pairs are one fraction), Lowest terms, Order and the smallest pair.
+-- The laws on fractions: Limits as code tests them, Numerators of an expansion, Same (when two pairs are one fraction), Lowest terms, Order and the smallest
+-- pair, Expansion (its digits are the bits that fit), Words (by wrapping arithmetic).
 pub mod Limits
 pub mod Numerators
 pub mod Same
 pub mod Lowest
 pub mod Order
+pub mod Expansion
+pub mod Words

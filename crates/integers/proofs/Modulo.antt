@@ -1,5 +1,5 @@
 -- Remainders by a number W, and inverses modulo a power of 2.
-use mathlib.Core.Path.{_≡_, refl, sym, ap, _∙_, subst}
+use mathlib.Core.Path.{_≡_, refl, sym, ap, ap₂, _∙_, subst}
 use Prim.Native.Nat.{ℕ, zero, suc, _+_, _-_, _*_, _/_, _%_, _^_, _≤_, _<_}
 use native.Mathlib.Omega.{arith}
 use native.Mathlib.Nat.{div-add-mod', mod-one, mod-eq-of-lt, mod-mod, mul-assoc, mul-comm, mul-one, add-mul-mod-self-left, add-mul-mod-self-right, pow-suc, mul-le-mul, mul-le-mul-right, le-refl}
@@ -48,6 +48,25 @@ pub newton : (K c e f : ℕ) → 1 < K → e % K ≡ 1 → f + e ≡ K * K * c +
 newton K c e f h i k =
     newton-of K c (e / K) e f (one-more K e h i) k
     ∙ mod-eq-of-lt (omega (arith, mul-le-mul-right {m = 1} {n = K} K (omega arith)))
+
+-- the same with remainders modulo W, a multiple of K K, as code computes it
+pub newton-step : (W K c q x e f y : ℕ) → 1 < K → K * K * c ≡ W → e ≡ q * x % W → (f + e) % W ≡ 2 → y ≡ x * f % W → q * x % K ≡ 1 → q * y % (K * K) ≡ 1
+newton-step W K c q x e f y k w he hf hy i =
+    let both : K * (K * c) ≡ W = sym (mul-assoc K K c) ∙ w in
+    let one : e % K ≡ 1 = ap (λ (n : ℕ). n % K) he ∙ ap (λ (n : ℕ). q * x % n % K) (sym both) ∙ mod-down K (K * c) (q * x) ∙ i in
+    let sum : f + e ≡ K * K * (c * ((f + e) / W)) + 2 =
+    sym (div-add-mod' (f + e) W) ∙ ap₂ (λ (n r : ℕ). n + r) (mul-comm ((f + e) / W) W ∙ ap (λ (n : ℕ). n * ((f + e) / W)) (sym w) ∙ mul-assoc (K * K) c ((f + e) / W)) hf in
+    let lower : (t : ℕ) → t % W % (K * K) ≡ t % (K * K) = λ t. ap (λ (n : ℕ). t % n % (K * K)) (sym w) ∙ mod-down (K * K) c t in
+    let over : q * y % W ≡ e * f % W =
+    ap (λ (n : ℕ). q * n % W) hy ∙ mul-mod-r W q (x * f) ∙ ap (λ (n : ℕ). n % W) (sym (mul-assoc q x f)) ∙ sym (mul-mod-l W (q * x) f) ∙ ap (λ (n : ℕ). n * f % W) (sym he) in
+    sym (lower (q * y)) ∙ ap (λ (n : ℕ). n % (K * K)) over ∙ lower (e * f) ∙ newton K (c * ((f + e) / W)) e f k one sum
+
+-- an odd number is its own inverse modulo 4
+pub odd-square : (q : ℕ) → q % 2 ≡ 1 → q * q % 4 ≡ 1
+odd-square q o =
+    let h : q ≡ 1 + 2 * (q / 2) = omega arith in
+    let s : q * q ≡ (1 + 2 * (q / 2)) * (1 + 2 * (q / 2)) = ap (λ (n : ℕ). n * n) h in
+    omega arith
 
 -- an odd number has an inverse modulo each power of 2
 pub inverse : (q k : ℕ) → q % 2 ≡ 1 → (v : ℕ) × (q * v % 2 ^ suc k ≡ 1)

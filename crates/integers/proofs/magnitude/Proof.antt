@@ -1,3 +1,4 @@
+-- `integers::magnitude` meets its contract, also for the least i64, whose size does not fit an i64.
 use mathlib.Core.Path.{_≡_, refl, sym, ap, _∙_, subst}
 use mathlib.Core.Bool.{true, false}
 use Prim.Native.Nat.{ℕ, zero, suc, _+_, _<_, _^_}
@@ -11,8 +12,8 @@ use mir.Val.{SFits, Fits, toZ, ofZ}
 use mir.Facts.{toZ-ofZ, sfits-lit, fits-natAbs}
 use borrow.Author.Needs.{needs}
 use borrow.Author.Tests.{ltb-true, ltb-false}
-use Rattle.show.proofs.magnitude.Statement.{statement}
-use Rattle.show.proofs.magnitude.Tie as tie
+use Rattle.integers.proofs.magnitude.Statement.{statement}
+use Rattle.integers.proofs.magnitude.Tie as tie
 
 -- what is asked of a negative x, with y for x + 1 and z for -(x + 1)
 record Steps (x y z : ℤ) : Type 0 where
