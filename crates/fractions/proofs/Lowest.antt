@@ -5,17 +5,23 @@
 --   multiple        a fraction that is p/q, p/q in lowest terms, is a multiple of it
 --   lowest-same     two pairs in lowest terms that are the same fraction are the same pair
 --   lowest-unique   so the lowest terms of a fraction are one pair
+--   reduced-by      divided by their greatest common divisor, and p with its sign
 --   power-coprime   what divides both of two numbers of a combination that is a power of two, one of them odd, is 1
 use mathlib.Core.Path.{_≡_, refl, sym, ap, ap₂, _∙_, subst}
+use mathlib.Core.Bool.{Bool, true, false}
 use Prim.Native.Nat.{ℕ, zero, suc, _+_, _*_, _/_, _%_, _^_, _≤_, _<_}
 use native.Mathlib.Omega.{arith}
-use native.Mathlib.Nat.{pow-succ', mul-mod-right, mul-comm, eq-of-mul-eq-mul-right}
+use native.Mathlib.Nat.{pow-succ', mul-mod-right, mul-comm, eq-of-mul-eq-mul-right, div-le-self}
 use lib.IntN.{ℤ, pos, negsuc, negℤ, natAbs, _-ℤ_, _*ℤ_}
-use Rattle.integers.specs.Numbers.{Coprime}
-use Rattle.integers.proofs.Parts.{natAbs-*}
-use Rattle.integers.proofs.Coprime.{quot, euclid}
+use lib.Signed.{ltZ}
+use lib.Dec.{T}
+use borrow.Author.Tests.{ltb-true}
+use Rattle.integers.specs.Numbers.{Coprime, IsGcd}
+use Rattle.integers.proofs.Parts.{natAbs-*, natAbs-neg}
+use Rattle.integers.proofs.Coprime.{quot, euclid, GcdParts, gcd-parts}
 use Rattle.integers.proofs.Ring.{neg, _⊗_, ring2, ring3, _≔_}
 use Rattle.fractions.specs.Pairs.{LowestTerms, SameFraction, Lowest}
+use Rattle.fractions.specs.Inner.{signedBy, Reduced}
 use Rattle.fractions.proofs.Same.{cancel}
 
 -- z divided by d, where d divides its size
@@ -100,3 +106,39 @@ odd-one (suc n) d e o h = odd-one n d (e / 2) o (omega (arith, pow-succ' 2 n, tw
 pub power-coprime : (n q r x y : ℕ) → q % 2 ≡ 1 → q * x + y * r ≡ 2 ^ n → Coprime q r
 power-coprime n q r x y o h d hq hr = odd-one n d (q / d * x + y * (r / d)) (odd-left d (q / d) (ap (λ (m : ℕ). m % 2) (sym (quot d q hq)) ∙ o))
     (omega (arith, h, ap (λ (m : ℕ). m * x) (quot d q hq), ap (λ (m : ℕ). y * m) (quot d r hr)))
+
+-- ---- lowest terms by the greatest common divisor
+sign-of : (p : ℤ) (b : Bool) → ltZ p (pos 0) ≡ b → p ≡ signedBy b (natAbs p)
+sign-of (pos n) true e = absurd (let k : n < 0 = ltb-true n 0 e in omega arith)
+sign-of (pos n) false e = refl
+sign-of (negsuc n) true e = refl
+sign-of (negsuc n) false e = absurd (subst T e tt)
+
+pub signed-size : (b : Bool) (n : ℕ) → natAbs (signedBy b n) ≡ n
+signed-size true n = natAbs-neg (pos n)
+signed-size false n = refl
+
+signed-times : (b : Bool) (d k c : ℕ) → signedBy b (d * k) *ℤ pos c ≡ signedBy b k *ℤ pos (d * c)
+signed-times true d k c = ring3 (λ d k c. neg (d ⊗ k) ⊗ c ≔ neg k ⊗ (d ⊗ c)) tt (pos d) (pos k) (pos c)
+signed-times false d k c = ring3 (λ d k c. d ⊗ k ⊗ c ≔ k ⊗ (d ⊗ c)) tt (pos d) (pos k) (pos c)
+
+pub reduced-by : (p : ℤ) (q s d : ℕ) → 1 ≤ q → s ≡ natAbs p → IsGcd s q d → Reduced p q (signedBy (ltZ p (pos 0)) (s / d)) (q / d)
+reduced-by p q s d h e g = record {
+  lowest = record {
+    some = some (q / d) (w .b-is);
+    lowest = subst (Coprime (q / d)) (sym (signed-size b (s / d))) (w .coprime);
+    same = ap (λ (z : ℤ). z *ℤ pos (q / d)) (sign-of p b refl ∙ ap (signedBy b) (sym e ∙ w .a-is)) ∙ signed-times b d (s / d) (q / d) ∙ ap (λ (n : ℕ). signedBy b (s / d) *ℤ pos n) (sym (w .b-is));
+  };
+  p-less = subst (λ (n : ℕ). n ≤ natAbs p) (sym (signed-size b (s / d))) (subst (λ (n : ℕ). s / d ≤ n) e (div-le-self s d));
+  q-less = div-le-self q d;
+}
+  where
+    b : Bool
+    b = ltZ p (pos 0)
+
+    w : GcdParts s q d
+    w = gcd-parts s q d h g
+
+    some : (c : ℕ) → q ≡ d * c → 1 ≤ c
+    some zero k = absurd (omega arith)
+    some (suc c) k = omega arith

@@ -2,9 +2,9 @@
 ghost use mathlib.Core.Path.{_≡_};
 ghost use Prim.Native.Nat.{_^_, _<_, _≤_};
 ghost use lib.IntN.{natAbs};
-ghost use Rattle.fractions.specs.Pairs.{Inside, Lowest};
+ghost use Rattle.fractions.specs.Pairs.{Inside};
 ghost use Rattle.fractions.specs.Answers.{Decides, Outputs, numberOf, wordOf};
-ghost use Rattle.fractions.specs.Inner.{Residue};
+ghost use Rattle.fractions.specs.Inner.{Residue, signedBy, Reduced};
 
 // The largest q, and the largest |p|, inside the limits.
 pub const LIMIT: u32 = 1073741823;
@@ -13,6 +13,12 @@ pub const LIMIT: u32 = 1073741823;
 pub struct Fraction {
     pub p: i32,
     pub q: u32,
+}
+
+// A fraction on its way to the limits: numerators of registers, and sums, are wider than the pairs that they reduce to.
+pub struct Ratio {
+    pub p: i64,
+    pub q: u64,
 }
 
 // The output word, or refusal 4: the pair is outside the limits.
@@ -56,5 +62,29 @@ pub fn output_word(p: i32, q: u32) -> Output
         Output::Word(integers::wrapping_mul(residue(p), integers::inverse(q as u64)))
     } else {
         Output::Outside
+    }
+}
+
+fn with_sign(size: u64, minus: bool) -> i64
+    requires { ⌜ size < 2 ^ 62 ⌝ }
+    ensures { λ r. ⌜ r ≡ signedBy minus size ⌝ }
+{
+    if minus {
+        0 - (size as i64)
+    } else {
+        size as i64
+    }
+}
+
+// p/q in lowest terms; zero is (0, 1). Not an entry point: its callers in other crates show that q is not 0 and p fits.
+pub fn lowest_terms(p: i64, q: u64) -> Ratio
+    requires { ⌜ (1 ≤ q) × (natAbs p < 2 ^ 62) ⌝ }
+    ensures { λ r. ⌜ Reduced p q (r .p) (r .q) ⌝ }
+{
+    let size = integers::magnitude(p);
+    let d = integers::gcd(size, q);
+    Ratio {
+        p: with_sign(size / d, p < 0),
+        q: q / d,
     }
 }

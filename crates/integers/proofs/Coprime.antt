@@ -1,8 +1,8 @@
 -- Divisibility as a remainder that is 0, lowest terms, Euclid's lemma (with no Bézout: the least c ≥ 1 with q | c x), and the greatest common divisor.
 use mathlib.Core.Path.{_≡_, refl, sym, ap, _∙_, subst}
-use Prim.Native.Nat.{ℕ, zero, suc, _+_, _-_, _*_, _/_, _%_, _≤_, _<_}
+use Prim.Native.Nat.{ℕ, zero, suc, _+_, _-_, _*_, _/_, _%_, _∣_, _≤_, _<_}
 use native.Mathlib.Omega.{arith}
-use native.Mathlib.Nat.{div-add-mod, mul-add-mod-self-left, mul-assoc, mul-mod-right, mul-comm, mod-lt, one-mul, eq-of-mul-eq-mul-left, dvd-mod-iff, dvd-antisymm, dvd-iff-mod-eq-zero, mod-self, zero-mod}
+use native.Mathlib.Nat.{div-add-mod, mul-add-mod-self-left, mul-assoc, mul-mod-right, mul-comm, mod-lt, one-mul, eq-of-mul-eq-mul-left, dvd-mod-iff, dvd-antisymm, dvd-iff-mod-eq-zero, mod-self, zero-mod, pos-of-dvd-of-pos, eq-one-of-dvd-one, dvd-of-mul-dvd-mul-left, mul-one}
 use native.Mathlib.Decide.{ℕ-discrete, map-dec}
 use Rattle.integers.specs.Numbers.{Divides, Coprime, IsGcd, Least}
 use Rattle.integers.proofs.Finite.{least}
@@ -114,3 +114,24 @@ gcd-step a b r g = record {
 
 pub gcd-unique : (a b r s : ℕ) → IsGcd a b r → IsGcd a b s → r ≡ s
 gcd-unique a b r s g h = dvd-antisymm (dvd-iff-mod-eq-zero r .1 (h .most r (g .left) (g .right))) (dvd-iff-mod-eq-zero s .1 (g .most s (h .left) (h .right)))
+
+-- divided by their greatest common divisor two numbers are coprime
+pub record GcdParts (a b d : ℕ) : Type 0 where
+  pub some : 1 ≤ d
+  pub a-is : a ≡ d * (a / d)
+  pub b-is : b ≡ d * (b / d)
+  pub coprime : Coprime (b / d) (a / d)
+
+pub gcd-parts : (a b d : ℕ) → 1 ≤ b → IsGcd a b d → GcdParts a b d
+gcd-parts a b d h g = record { some = some; a-is = quot d a (g .left); b-is = quot d b (g .right); coprime = prime }
+  where
+    some : 1 ≤ d
+    some = pos-of-dvd-of-pos (dvd-iff-mod-eq-zero d .1 (g .right)) h
+
+    -- d e divides n where e divides n / d
+    whole : (n e : ℕ) → Divides d n → Divides e (n / d) → Divides (d * e) n
+    whole n e k l = ap (λ (m : ℕ). m % (d * e)) (quot d n k ∙ ap (λ (m : ℕ). d * m) (quot e (n / d) l) ∙ sym (mul-assoc d e (n / d / e))) ∙ mul-mod-right (d * e) (n / d / e)
+
+    prime : Coprime (b / d) (a / d)
+    prime e k l = eq-one-of-dvd-one (dvd-of-mul-dvd-mul-left {k = d} e {n = 1} some
+        (subst (λ (n : ℕ). d * e ∣ n) (sym (mul-one d)) (dvd-iff-mod-eq-zero (d * e) .1 (g .most (d * e) (whole a e (g .left) l) (whole b e (g .right) k)))))
