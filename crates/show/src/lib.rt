@@ -26,6 +26,11 @@ pub fn signed_field(x: i64) {
     signed(x);
 }
 
+// The same for 32 bits, as the libraries' p and memory have, so that programs need no cast.
+pub fn signed32_field(x: i32) {
+    signed_field(x as i64);
+}
+
 pub fn line_end() {
     text(b"\n");
 }
