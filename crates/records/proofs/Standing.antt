@@ -1,0 +1,147 @@
+-- A record stands at a position exactly when its bytes say so: the facts that the parser's tests come to, and back.
+--
+--   Stands block at r     the record r stands at `at`, whole, with correct fields
+--   found-stands          where the parser finds a record, it stands
+--   stands-found          where a record stands, the parser finds it
+--   stands-inside         its bytes lie inside the block, and its bits' bytes inside the record
+--   bytes-few             the bytes of a record's bits are as few as hold them
+--   entry-bit             bit i of a record is bit i of its own bytes
+--   entry-spare           the spare bits of its bytes are zero
+use Prim.Native.Nat.{ℕ, zero, suc, _+_, _-_, _*_, _/_, _%_, _^_, _≤_, _<_}
+use mathlib.Core.Path.{_≡_, refl, sym, ap, _∙_, subst}
+use mathlib.Core.Bool.{Bool, true, false, cond}
+use mathlib.Core.List.{List, [], _∷_}
+use native.Mathlib.Omega.{arith}
+use lib.ListN.{length, getD, take, drop, length-drop}
+use lib.Seq.{length-take-le, getD-take, getD-drop}
+use lib.Dec.{ltb, leb, eqb}
+use borrow.Author.Tests.{ltb-true, ltb-false, leb-false, eqb-true, eqb-false, eq-eqb, ne-eqb, lt-ltb, le-ltb, lt-leb}
+use Rattle.bits.specs.Bits.{num, digits, Below, bitAt}
+use Rattle.bits.proofs.Bits.{unpacked-bit, spare-zero}
+use Rattle.bits.proofs.Laws.{below-take}
+use Rattle.records.specs.declared.Record.{Record}
+use Rattle.records.specs.declared.Refusal.{Refusal}
+use Rattle.records.specs.declared.Refusal.the-variants.{ShortHeader, WrongMark, BadMeter, BadCount, RunsPast, SpareBit}
+use Rattle.records.specs.declared.Head.{Head}
+use Rattle.records.specs.declared.Head.the-variants as H
+use Rattle.records.specs.Block.{headerSize, meterAt, countAt, markWord, meters, recordBits, twoBytes, bytesFor, payload, judged, headAt, entryOf}
+use Rattle.records.proofs.Cond.{yes, no}
+
+pub record Stands (block : List ℕ) (at : ℕ) (r : Record) : Type 0 where
+  pub starts : r .start ≡ at + headerSize
+  pub ends : r .next ≡ r .start + bytesFor (r .count)
+  pub last : r .next ≤ length block
+  pub mark-is : twoBytes block at ≡ markWord
+  pub meter-is : twoBytes block (at + meterAt) ≡ r .meter
+  pub count-is : twoBytes block (at + countAt) ≡ r .count
+  pub meter-low : 0 < r .meter
+  pub meter-high : r .meter ≤ meters
+  pub count-low : 0 < r .count
+  pub count-high : r .count ≤ recordBits
+  pub spare : num 256 (payload block (r .start) (r .count)) < 2 ^ (r .count)
+
+-- ---- from the parser's answer
+passed : (t : Bool) (h x : Head) (r : Record) → (h ≡ H.Found r → ⊥) → cond t h x ≡ H.Found r → (t ≡ false) × (x ≡ H.Found r)
+passed true h x r n e = absurd (n e)
+passed false h x r n e = (refl, e)
+
+kept : (t : Bool) (h x : Head) (r : Record) → (x ≡ H.Found r → ⊥) → cond t h x ≡ H.Found r → (t ≡ true) × (h ≡ H.Found r)
+kept true h x r n e = (refl, e)
+kept false h x r n e = absurd (n e)
+
+refusal-not : (x : Refusal) (r : Record) → H.Refused x ≡ H.Found r → ⊥
+refusal-not x r e = let z : _≡_ {A = ℕ} 0 1 = cc in omega arith
+
+end-not : (r : Record) → H.End ≡ H.Found r → ⊥
+end-not r e = let z : _≡_ {A = ℕ} 0 1 = cc in omega arith
+
+same-record : (a r : Record) → H.Found a ≡ H.Found r → a ≡ r
+same-record a r e = cc
+
+module _ (block : List ℕ) (at : ℕ) (r : Record) where
+  judged-stands : at + headerSize ≤ length block
+      → judged block at (twoBytes block at) (twoBytes block (at + meterAt)) (twoBytes block (at + countAt)) ≡ H.Found r → Stands block at r
+  unfolding judged
+  judged-stands l e =
+      let meter = twoBytes block (at + meterAt) in
+      let count = twoBytes block (at + countAt) in
+      let start = at + headerSize in
+      let t1 = kept (eqb (twoBytes block at) markWord) _ _ r (refusal-not (WrongMark at) r) e in
+      let t2 = passed (eqb meter 0) _ _ r (refusal-not (BadMeter at) r) (t1 .1) in
+      let t3 = passed (ltb meters meter) _ _ r (refusal-not (BadMeter at) r) (t2 .1) in
+      let t4 = passed (eqb count 0) _ _ r (refusal-not (BadCount at) r) (t3 .1) in
+      let t5 = passed (ltb recordBits count) _ _ r (refusal-not (BadCount at) r) (t4 .1) in
+      let t6 = passed (ltb (length block - start) (bytesFor count)) _ _ r (refusal-not (RunsPast at) r) (t5 .1) in
+      let t7 = kept (ltb (num 256 (payload block start count)) (2 ^ count)) _ _ r (refusal-not (SpareBit at) r) (t6 .1) in
+      subst (Stands block at) (same-record _ r (t7 .1))
+      (record {
+        starts = refl;
+        ends = refl;
+        last = omega (arith, ltb-false (length block - start) (bytesFor count) (t6 .0));
+        mark-is = eqb-true (twoBytes block at) markWord (t1 .0);
+        meter-is = refl;
+        count-is = refl;
+        meter-low = omega (arith, eqb-false meter 0 (t2 .0));
+        meter-high = ltb-false meters meter (t3 .0);
+        count-low = omega (arith, eqb-false count 0 (t4 .0));
+        count-high = ltb-false recordBits count (t5 .0);
+        spare = ltb-true (num 256 (payload block start count)) (2 ^ count) (t7 .0);
+      })
+
+  pub found-stands : headAt block at ≡ H.Found r → Stands block at r
+  unfolding headAt
+  found-stands e =
+      let t1 = passed (leb (length block) at) _ _ r (end-not r) e in
+      let t2 = passed (ltb (length block - at) headerSize) _ _ r (refusal-not (ShortHeader at) r) (t1 .1) in
+      let h = leb-false (length block) at (t1 .0) in
+      judged-stands (omega (arith, ltb-false (length block - at) headerSize (t2 .0))) (t2 .1)
+
+  -- ---- and back
+  fields : (meter count start next : ℕ) → meter ≡ r .meter → count ≡ r .count → start ≡ r .start → next ≡ r .next
+      → H.Found (record { meter = meter; count = count; start = start; next = next }) ≡ H.Found r
+  fields meter count start next a b c d = λ i. H.Found (record { meter = a i; count = b i; start = c i; next = d i })
+
+  pub stands-found : Stands block at r → headAt block at ≡ H.Found r
+  unfolding headAt judged
+  stands-found s =
+      let meter = twoBytes block (at + meterAt) in
+      let count = twoBytes block (at + countAt) in
+      let start = at + headerSize in
+      let m = s .meter-is in
+      let n = s .count-is in
+      let long : start + bytesFor count ≤ length block = omega (arith, s .starts, s .ends, s .last) in
+      let spare : num 256 (payload block start count) < 2 ^ count =
+      subst (λ (k : ℕ). num 256 (payload block start k) < 2 ^ k) (sym n)
+      (subst (λ (k : ℕ). num 256 (payload block k (r .count)) < 2 ^ r .count) (s .starts) (s .spare)) in
+      no _ _ (lt-leb (length block) at (omega arith))
+      ∙ no _ _ (le-ltb (length block - at) headerSize (omega arith))
+      ∙ yes _ _ (eq-eqb (twoBytes block at) markWord (s .mark-is))
+      ∙ no _ _ (ne-eqb meter 0 (λ z. omega (arith, s .meter-low)))
+      ∙ no _ _ (le-ltb meters meter (omega (arith, s .meter-high)))
+      ∙ no _ _ (ne-eqb count 0 (λ z. omega (arith, s .count-low)))
+      ∙ no _ _ (le-ltb recordBits count (omega (arith, s .count-high)))
+      ∙ no _ _ (le-ltb (length block - start) (bytesFor count) (omega arith))
+      ∙ yes _ _ (lt-ltb (num 256 (payload block start count)) (2 ^ count) spare)
+      ∙ fields meter count start (start + bytesFor count) m n (sym (s .starts)) (sym (s .ends ∙ ap (λ (k : ℕ). k + bytesFor (r .count)) (s .starts) ∙ ap (λ (k : ℕ). start + bytesFor k) (sym n)))
+
+  -- ---- what a record that stands keeps to
+  module _ (s : Stands block at r) where
+    pub stands-inside : (at < r .start) × (r .start < r .next) × (r .next ≤ length block)
+    stands-inside = (omega (arith, s .starts), omega (arith, s .ends, s .count-low), s .last)
+
+    pub payload-long : length (payload block (r .start) (r .count)) ≡ bytesFor (r .count)
+    payload-long = length-take-le (bytesFor (r .count)) (drop (r .start) block) (rw length-drop (omega (arith, s .ends, s .last)))
+
+    below-payload : Below 256 block → Below 256 (payload block (r .start) (r .count))
+    below-payload l = below-take 256 (drop (r .start) block) (bytesFor (r .count)) (omega arith) (λ i. subst (λ (x : ℕ). x < 256) (sym (getD-drop (r .start) block i 0)) (l (r .start + i)))
+
+    -- the byte that holds bit i lies between the record's start and its end
+    pub entry-bit : Below 256 block → (i : ℕ) → i < r .count → (getD (entryOf block at r .bits) i 0 ≡ bitAt (payload block (r .start) (r .count)) i) × (r .start + i / 8 < r .next)
+    entry-bit l i h =
+        (unpacked-bit (payload block (r .start) (r .count)) (r .count) i (below-payload l) h, omega (arith, s .ends))
+
+    pub entry-spare : Below 256 block → (i : ℕ) → r .count ≤ i → bitAt (payload block (r .start) (r .count)) i ≡ 0
+    entry-spare l i h = spare-zero (payload block (r .start) (r .count)) (r .count) (below-payload l) (s .spare) i h
+
+pub bytes-few : (count : ℕ) → (count ≤ 8 * bytesFor count) × ((n : ℕ) → count ≤ 8 * n → bytesFor count ≤ n)
+bytes-few count = (omega arith, λ n h. omega arith)

@@ -1,0 +1,104 @@
+-- `records::judge` meets its contract: each return is the branch that the tests so far pick in the definition.
+use Prim.Native.Nat.{ℕ, _+_, _-_, _/_, _^_}
+use mathlib.Core.Path.{_≡_, refl, sym, ap, _∙_}
+use mathlib.Core.Bool.{Bool, true, false, cond}
+use mathlib.Core.List.{List}
+use native.Mathlib.Omega.{arith}
+use lib.ListN.{length, take, drop}
+use lib.Dec.{ltb}
+use borrow.Author.Tests.{le-ltb, lt-ltb, eq-eqb, ne-eqb}
+use Rattle.bits.specs.Bits.{num}
+use Rattle.records.specs.Block.{judged, payload, bytesFor}
+use Rattle.records.proofs.Cond.{yes, no}
+use borrow.Author.Needs.{needs}
+use Rattle.records.proofs.judge.Statement.{statement}
+use Rattle.records.proofs.judge.Tie as tie
+
+same-part : (s : List ℕ) (at count : ℕ) {t : Bool} → ltb (num 256 (take (at + 6 + (count + 7) / 8 - (at + 6)) (drop (at + 6) s))) (2 ^ count) ≡ t
+    → ltb (num 256 (payload s (at + 6) count)) (2 ^ count) ≡ t
+same-part s at count e =
+    let q : (count + 7) / 8 ≡ at + 6 + (count + 7) / 8 - (at + 6) = omega arith in
+    ap (λ (n : ℕ). ltb (num 256 (take n (drop (at + 6) s))) (2 ^ count)) q ∙ e
+
+returns : tie.Need-returns
+unfolding judged
+returns c = sym (no _ _ (ne-eqb _ _ (c .if1 .taken)))
+
+returns-2 : tie.Need-returns-2
+unfolding judged
+returns-2 c = sym (yes _ _ (eq-eqb _ _ (c .before .if1 .left)) ∙ yes _ _ (eq-eqb _ _ (c .if2 .taken)))
+
+returns-3 : tie.Need-returns-3
+unfolding judged
+returns-3 c = sym (yes _ _ (eq-eqb _ _ (c .before .before .if1 .left)) ∙ no _ _ (ne-eqb _ _ (c .before .if2 .left)) ∙ yes _ _ (lt-ltb _ _ (c .if3 .taken)))
+
+returns-4 : tie.Need-returns-4
+unfolding judged
+returns-4 c = sym (yes _ _ (eq-eqb _ _ (c .before .before .before .if1 .left)) ∙ no _ _ (ne-eqb _ _ (c .before .before .if2 .left)) ∙ no _ _ (le-ltb _ _ (c .before .if3 .left)) ∙ yes _ _ (eq-eqb _ _ (c .if4 .taken)))
+
+returns-5 : tie.Need-returns-5
+unfolding judged
+returns-5 c = sym (yes _ _ (eq-eqb _ _ (c .before .before .before .before .if1 .left)) ∙ no _ _ (ne-eqb _ _ (c .before .before .before .if2 .left)) ∙ no _ _ (le-ltb _ _ (c .before .before .if3 .left)) ∙ no _ _ (ne-eqb _ _ (c .before .if4 .left)) ∙ yes _ _ (lt-ltb _ _ (c .if5 .taken)))
+
+add-start : tie.Need-add-start
+add-start c = search needs
+
+add-bytes : tie.Need-add-bytes
+add-bytes c = search needs
+
+sub-if6 : tie.Need-sub-if6
+sub-if6 c = search needs
+
+returns-6 : tie.Need-returns-6
+unfolding judged
+returns-6 c = sym (yes _ _ (eq-eqb _ _ (c .before .before .before .before .before .if1 .left)) ∙ no _ _ (ne-eqb _ _ (c .before .before .before .before .if2 .left)) ∙ no _ _ (le-ltb _ _ (c .before .before .before .if3 .left)) ∙ no _ _ (ne-eqb _ _ (c .before .before .if4 .left)) ∙ no _ _ (le-ltb _ _ (c .before .if5 .left)) ∙ yes _ _ (lt-ltb _ _ (c .if6 .taken)))
+
+add-next : tie.Need-add-next
+add-next c = search needs
+
+sub-fits : tie.Need-sub-fits
+sub-fits c = search needs
+
+part-fits-start : tie.Need-part-fits-start
+part-fits-start c = search needs
+
+part-fits-end : tie.Need-part-fits-end
+part-fits-end c = search needs
+
+fits-requires : tie.Need-fits-requires
+fits-requires c κs = search needs
+
+returns-7 : tie.Need-returns-7
+unfolding judged
+returns-7 c =
+    let a = c .before .before .before .before .before .before .before .before .before .before .args in
+    let e = same-part (a .block .now) (a .at) (a .count) (sym (c .before .fits2 .ensures) ∙ c .if7 .taken) in
+    sym (yes _ _ (eq-eqb _ _ (c .before .before .before .before .before .before .before .before .if1 .left)) ∙ no _ _ (ne-eqb _ _ (c .before .before .before .before .before .before .before .if2 .left)) ∙ no _ _ (le-ltb _ _ (c .before .before .before .before .before .before .if3 .left)) ∙ no _ _ (ne-eqb _ _ (c .before .before .before .before .before .if4 .left)) ∙ no _ _ (le-ltb _ _ (c .before .before .before .before .if5 .left)) ∙ no _ _ (le-ltb _ _ (c .before .before .before .if6 .left)) ∙ yes _ _ e)
+
+returns-8 : tie.Need-returns-8
+unfolding judged
+returns-8 c =
+    let a = c .before .before .before .before .before .before .before .before .before .before .args in
+    let e = same-part (a .block .now) (a .at) (a .count) (sym (c .before .fits2 .ensures) ∙ c .if7 .left) in
+    sym (yes _ _ (eq-eqb _ _ (c .before .before .before .before .before .before .before .before .if1 .left)) ∙ no _ _ (ne-eqb _ _ (c .before .before .before .before .before .before .before .if2 .left)) ∙ no _ _ (le-ltb _ _ (c .before .before .before .before .before .before .if3 .left)) ∙ no _ _ (ne-eqb _ _ (c .before .before .before .before .before .if4 .left)) ∙ no _ _ (le-ltb _ _ (c .before .before .before .before .if5 .left)) ∙ no _ _ (le-ltb _ _ (c .before .before .before .if6 .left)) ∙ no _ _ e)
+
+pub judge-spec : {M : Type 1} → statement M
+judge-spec =
+    tie.close
+    (tie.spec
+    returns
+    returns-2
+    returns-3
+    returns-4
+    returns-5
+    add-start
+    add-bytes
+    sub-if6
+    returns-6
+    add-next
+    sub-fits
+    part-fits-start
+    part-fits-end
+    fits-requires
+    returns-7
+    returns-8)
