@@ -1,0 +1,176 @@
+-- The order of two modulo an odd q: there is one, it is at most q - 1 (1 for q = 1), and it divides each exponent t with 2^t = 1.
+use mathlib.Core.Path.{_≡_, refl, sym, ap, _∙_, subst}
+use mathlib.Core.Logic.{inl, inr, _↔_}
+use Prim.Native.Nat.{ℕ, zero, suc, _+_, _-_, _*_, _/_, _%_, _^_, _≤_, _<_, max}
+use native.Mathlib.Omega.{arith}
+use native.Mathlib.Nat.{mod-zero, mod-one, mod-eq-of-lt, mod-lt, zero-mod, one-mul, mul-one, mul-comm, mul-zero, mul-suc, mul-mod-right, div-add-mod, le-trans}
+use native.Mathlib.Decide.{ℕ-discrete, map-dec}
+use lib.Pow.{pow-add, pow-pos}
+use Rattle.integers.specs.Numbers.{Least, Coprime}
+use Rattle.integers.proofs.Finite.{least, le-or-gt, Twice, pigeon}
+use Rattle.integers.proofs.Coprime.{quot, mod-drop, euclid}
+use Rattle.integers.proofs.Modulo.{cong-of, mul-mod-l}
+use Rattle.periods.specs.Orders.{UnitPower, Order}
+
+-- ---- the rule in the document's words: 2^t - 1 divisible by q
+pub power-one-iff : (q t : ℕ) → 1 ≤ q → (2 ^ t % q ≡ 1 % q) ↔ ((2 ^ t - 1) % q ≡ 0)
+power-one-iff q t s = ((λ h. elim (le-or-gt q 1) [ inl l ↦ small (omega arith) | inr l ↦ big l h ]), (λ h. ap (λ n. n % q) whole ∙ mod-drop q (2 ^ t - 1) 1 h))
+  where
+    whole : 2 ^ t ≡ 2 ^ t - 1 + 1
+    whole = omega (arith, pow-pos t)
+
+    small : q ≡ 1 → (2 ^ t - 1) % q ≡ 0
+    small e = ap (λ n. (2 ^ t - 1) % n) e ∙ mod-one (2 ^ t - 1)
+
+    big : 1 < q → 2 ^ t % q ≡ 1 % q → (2 ^ t - 1) % q ≡ 0
+    big l h =
+        let e : 2 ^ t - 1 ≡ q * (2 ^ t / q) = omega (arith, div-add-mod (2 ^ t) q, mod-eq-of-lt l) in
+        ap (λ n. n % q) e ∙ mul-mod-right q (2 ^ t / q)
+
+abbrev pub Divisible : ℕ → ℕ → Type 0
+Divisible q t = (1 ≤ t) × ((2 ^ t - 1) % q ≡ 0)
+
+pub order-divides : (q T : ℕ) → 1 ≤ q → Order q T ↔ Least (Divisible q) T
+order-divides q T s = (
+  (λ r. record { holds = (r .holds .some, power-one-iff q T s .0 (r .holds .one)); first = λ t h. r .first t (record { some = h .0; one = power-one-iff q t s .1 (h .1) }) }),
+  (λ r. record { holds = record { some = r .holds .0; one = power-one-iff q T s .1 (r .holds .1) }; first = λ t h. r .first t (h .some, power-one-iff q t s .0 (h .one)) }),
+)
+
+-- ---- exponents with 2^t = 1
+pub power-drop : (q a b : ℕ) → 2 ^ a % q ≡ 1 % q → 2 ^ (a + b) % q ≡ 2 ^ b % q
+power-drop q a b h =
+    ap (λ n. n % q) (pow-add 2 a b) ∙ sym (mul-mod-l q (2 ^ a) (2 ^ b)) ∙ ap (λ n. n * 2 ^ b % q) h ∙ mul-mod-l q 1 (2 ^ b)
+    ∙ ap (λ n. n % q) (one-mul (2 ^ b))
+
+pub power-multiple : (q T k : ℕ) → 2 ^ T % q ≡ 1 % q → 2 ^ (T * k) % q ≡ 1 % q
+power-multiple q T zero h = ap (λ n. 2 ^ n % q) (mul-zero T)
+power-multiple q T (suc k) h = ap (λ n. 2 ^ n % q) (mul-suc T k) ∙ power-drop q (T * k) T (power-multiple q T k h) ∙ h
+
+-- 2^t = 1 mod q exactly where the order divides t
+pub order-multiple : (q T t : ℕ) → Order q T → (2 ^ t % q ≡ 1 % q) ↔ (t % T ≡ 0)
+order-multiple q T t r = (
+  (λ h. go (t % T) (mod-lt t (r .holds .some)) (rest h)),
+  (λ h. ap (λ n. 2 ^ n % q) (quot T t h) ∙ power-multiple q T (t / T) (r .holds .one)),
+)
+  where
+    rest : 2 ^ t % q ≡ 1 % q → 2 ^ (t % T) % q ≡ 1 % q
+    rest h =
+        sym (power-drop q (T * (t / T)) (t % T) (power-multiple q T (t / T) (r .holds .one)))
+        ∙ ap (λ n. 2 ^ n % q) (div-add-mod t T) ∙ h
+
+    go : (s : ℕ) → s < T → 2 ^ s % q ≡ 1 % q → s ≡ 0
+    go zero a e = refl
+    go (suc s) a e = let f : ⊥ = omega (arith, r .first (suc s) (record { some = omega arith; one = e })) in absurd f
+
+-- ---- two is coprime to an odd q, so that factors of two cancel
+two-coprime : (q : ℕ) → q % 2 ≡ 1 → Coprime q 2
+two-coprime q o zero h k = let f : ⊥ = omega (arith, mod-zero 2, k) in absurd f
+two-coprime q o (suc zero) h k = refl
+two-coprime q o (suc (suc zero)) h k = let f : ⊥ = omega arith in absurd f
+two-coprime q o (suc (suc (suc d))) h k = let f : ⊥ = omega (arith, mod-eq-of-lt (two d), k) in absurd f
+  where
+    two : (d : ℕ) → 2 < suc (suc (suc d))
+    two d = omega arith
+
+pub two-cancel : (q i n : ℕ) → q % 2 ≡ 1 → (n * 2 ^ i) % q ≡ 0 → n % q ≡ 0
+two-cancel q zero n o h = ap (λ m. m % q) (sym (mul-one n)) ∙ h
+two-cancel q (suc i) n o h =
+    two-cancel q i n o
+    (euclid q 2 (n * 2 ^ i) (omega arith) (two-coprime q o) (ap (λ m. m % q) (alg n (2 ^ i) (2 ^ suc i) (omega arith)) ∙ h))
+  where
+    alg : (n P Q : ℕ) → Q ≡ 2 * P → n * P * 2 ≡ n * Q
+    alg n P Q e = omega (arith, ap (λ (m : ℕ). n * m) e)
+
+power-some : (q i : ℕ) → q % 2 ≡ 1 → 1 < q → 1 ≤ 2 ^ i % q
+power-some q i o l = elim (ℕ-discrete (2 ^ i % q) 0) [
+  | yes h ↦ let f : ⊥ = omega (arith, two-cancel q i 1 o (ap (λ m. m % q) (one-mul (2 ^ i)) ∙ h), mod-eq-of-lt l) in absurd f
+  | no h ↦ omega arith
+]
+
+power-again : (q i k : ℕ) → q % 2 ≡ 1 → 2 ^ i % q ≡ 2 ^ (k + i) % q → 2 ^ k % q ≡ 1 % q
+power-again q i k o h =
+    power-one-iff q k (omega arith) .1
+    (two-cancel q i (2 ^ k - 1) o
+    (cong-of q ((2 ^ k - 1) * 2 ^ i) 0 (2 ^ i / q) (2 ^ (k + i) / q)
+    (alg (2 ^ k - 1) (2 ^ k) (2 ^ i) (2 ^ (k + i)) (q * (2 ^ i / q)) (q * (2 ^ (k + i) / q)) (2 ^ i % q) (omega (arith, pow-pos k)) (pow-add 2 k i)
+    (sym (div-add-mod (2 ^ i) q)) (sym (div-add-mod (2 ^ (k + i)) q) ∙ ap (λ n. q * (2 ^ (k + i) / q) + n) (sym h)))
+    ∙ zero-mod q))
+  where
+    alg : (m K P R a b r : ℕ) → K ≡ m + 1 → R ≡ K * P → P ≡ a + r → R ≡ b + r → m * P + a ≡ 0 + b
+    alg m K P R a b r e f g h = omega (arith, ap (λ (n : ℕ). n * P) e)
+
+-- ---- every odd q has its order, at most q - 1 (1 for q = 1): q - 1 remainders, none of them 0
+record Within (q N : ℕ) : Type 0 where
+  after : ℕ
+  power : UnitPower q after
+  most : after ≤ N
+
+within-one : (q : ℕ) → q ≡ 1 → Within q (max 1 (q - 1))
+within-one q e = record {
+  after = 1;
+  power = record { some = omega arith; one = ap (λ n. 2 ^ 1 % n) e ∙ sym (ap (λ n. 1 % n) e) };
+  most = omega arith;
+}
+
+within-more : (q : ℕ) → q % 2 ≡ 1 → 1 < q → Within q (max 1 (q - 1))
+within-more q o l = go (pigeon (q - 1) (λ i. 2 ^ i % q - 1) (λ i _. omega (arith, mod-lt (2 ^ i) {m = q} (omega arith), power-some q i o l)))
+  where
+    go : Twice (λ i. 2 ^ i % q - 1) (q - 1) → Within q (max 1 (q - 1))
+    go t = record {
+      after = t .j - t .i;
+      power = record {
+        some = omega (arith, t .less);
+        one = power-again q (t .i) (t .j - t .i) o (same ∙ ap (λ n. 2 ^ n % q) whole);
+      };
+      most = omega (arith, t .last);
+    }
+      where
+        same : 2 ^ t .i % q ≡ 2 ^ t .j % q
+        same = omega (arith, t .same, power-some q (t .i) o l, power-some q (t .j) o l)
+
+        whole : t .j ≡ t .j - t .i + t .i
+        whole = omega (arith, t .less)
+
+within : (q : ℕ) → q % 2 ≡ 1 → Within q (max 1 (q - 1))
+within q o = elim (le-or-gt q 1) [ inl l ↦ within-one q (omega arith) | inr l ↦ within-more q o l ]
+
+dec-power : (q t : ℕ) → Dec (UnitPower q t)
+dec-power q zero = no (λ u. let f : ⊥ = omega (arith, u .some) in f)
+dec-power q (suc t) = map-dec (λ e. record { some = omega arith; one = e }) (λ u. u .one) (ℕ-discrete (2 ^ suc t % q) (1 % q))
+
+pub order-exists : (q : ℕ) → q % 2 ≡ 1 → (T : ℕ) × Order q T
+order-exists q o = let w = within q o in least (UnitPower q) (dec-power q) (w .after) (w .power)
+
+pub order-most : (q T : ℕ) → q % 2 ≡ 1 → Order q T → T ≤ max 1 (q - 1)
+order-most q T o r = let w = within q o in le-trans (r .first (w .after) (w .power)) (w .most)
+
+-- ---- power by power: x is 2^t mod c, and no power before it is 1
+pub record Stepping (c t x : ℕ) : Type 0 where
+  pub odd : c % 2 ≡ 1
+  pub some : 1 ≤ t
+  pub power : x ≡ 2 ^ t % c
+  pub first : (k : ℕ) → UnitPower c k → t ≤ k
+
+pub stepping-start : (c : ℕ) → c % 2 ≡ 1 → Stepping c 1 (2 % c)
+stepping-start c o = record { odd = o; some = omega arith; power = refl; first = λ k u. u .some }
+
+not-yet : {c t x : ℕ} → Stepping c t x → (x ≡ 1 % c → ⊥) → (k : ℕ) → UnitPower c k → t < k
+not-yet {c} {t} {x} w n k u = elim (ℕ-discrete t k) [
+  | yes e ↦ absurd (n (w .power ∙ ap (λ m. 2 ^ m % c) e ∙ u .one))
+  | no e ↦ omega (arith, w .first k u)
+]
+
+pub stepping-more : (c t x : ℕ) → Stepping c t x → (x ≡ 1 % c → ⊥) → Stepping c (t + 1) (x * 2 % c)
+stepping-more c t x w n = record {
+  odd = w .odd;
+  some = omega arith;
+  power = ap (λ m. m * 2 % c) (w .power) ∙ mul-mod-l c (2 ^ t) 2 ∙ ap (λ m. m % c) (sym (pow-add 2 t 1));
+  first = λ k u. omega (arith, not-yet w n k u);
+}
+
+pub stepping-most : (c t x : ℕ) → Stepping c t x → (x ≡ 1 % c → ⊥) → t < c
+stepping-most c t x w n =
+    let r = order-exists c (w .odd) in omega (arith, not-yet w n (r .0) (r .1 .holds), order-most c (r .0) (w .odd) (r .1), w .odd)
+
+pub stepping-end : (c t x : ℕ) → Stepping c t x → x ≡ 1 % c → Order c t
+stepping-end c t x w e = record { holds = record { some = w .some; one = sym (w .power) ∙ e }; first = w .first }

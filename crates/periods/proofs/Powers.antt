@@ -1,0 +1,52 @@
+-- A power by squaring, and the sizes of trial division.
+use mathlib.Core.Path.{_≡_, refl, sym, ap, _∙_}
+use Prim.Native.Nat.{ℕ, zero, suc, _+_, _-_, _*_, _/_, _%_, _^_, _≤_, _<_}
+use native.Mathlib.Omega.{arith}
+use native.Mathlib.Nat.{le-div-iff-mul-le, mul-le-mul, div-mul-le-self, div-le-self, div-lt-self, le-trans, mul-le-mul-left, div-lt-iff-lt-mul}
+use lib.Pow.{pow-add, pow-pos, shr-shr}
+use Rattle.integers.proofs.Modulo.{mul-mod-l}
+
+square : (x y c : ℕ) → (x % c * (x % c) * y) % c ≡ (x * x * y) % c
+square x y c =
+    ap (λ n. n % c) (left (x % c) y) ∙ mul-mod-l c x (x % c * y) ∙ ap (λ n. n % c) (right x (x % c) y) ∙ mul-mod-l c x (x * y) ∙ ap (λ n. n % c) (sym (left x y))
+  where
+    left : (a y : ℕ) → a * a * y ≡ a * (a * y)
+    left a y = omega arith
+
+    right : (x a y : ℕ) → x * (a * y) ≡ a * (x * y)
+    right x a y = omega arith
+
+bit-pow : (b : ℕ) → b < 2 → 1 + b ≡ 2 ^ b
+bit-pow zero h = refl
+bit-pow (suc zero) h = refl
+bit-pow (suc (suc b)) h = let f : ⊥ = omega arith in absurd f
+
+-- one more digit of the exponent
+pub power-step : (e i c r : ℕ) → r ≡ 2 ^ (e / 2 ^ (i + 1)) % c → (r * r * (1 + e / 2 ^ i % 2)) % c ≡ 2 ^ (e / 2 ^ i) % c
+power-step e i c r h =
+    let A = e / 2 ^ (i + 1) in
+    let B = e / 2 ^ i in
+    let b = e / 2 ^ i % 2 in
+    let n : e / 2 ^ i ≡ e / 2 ^ (i + 1) + e / 2 ^ (i + 1) + e / 2 ^ i % 2 = omega (arith, shr-shr e i 1) in
+    ap (λ x. (x * x * (1 + b)) % c) h ∙ square (2 ^ A) (1 + b) c
+    ∙ ap (λ y. (2 ^ A * 2 ^ A * y) % c) (bit-pow b (omega arith))
+    ∙ ap (λ y. (y * 2 ^ b) % c) (sym (pow-add 2 A A)) ∙ ap (λ y. y % c) (sym (pow-add 2 (A + A) b))
+    ∙ ap (λ k. 2 ^ k % c) (sym n)
+
+-- ---- trial division: l at most m / l
+pub root : (l m : ℕ) → 2 ≤ l → l ≤ m / l → l * 2 ≤ m
+root l m h k =
+    let a : l * l ≤ m = le-div-iff-mul-le {k = l} {x = l} {y = m} (omega arith) .0 k in
+    le-trans (mul-le-mul-left l h) a
+
+pub shrinks : (l m : ℕ) → 2 ≤ l → l ≤ m / l → m / l - l < m - l
+shrinks l m h k =
+    let a = root l m h k in
+    let b : m / l < m = div-lt-self {n = m} {k = l} (omega arith) (omega arith) in
+    omega arith
+
+pub tot-le : (n l : ℕ) → n / l * (l - 1) ≤ n
+tot-le n l = le-trans (mul-le-mul-left (n / l) (omega arith)) (div-mul-le-self n l)
+
+pub shift-out : (e i : ℕ) → e / 2 ^ i ≡ 0 → e < 2 ^ i
+shift-out e i h = let a : e < 1 * 2 ^ i = div-lt-iff-lt-mul {k = 2 ^ i} {x = e} {y = 1} (pow-pos i) .0 (omega arith) in omega arith
