@@ -1,0 +1,3 @@
+-- The laws on registers: Validity has their ranges, Numerators the step law.
+pub mod Validity
+pub mod Numerators

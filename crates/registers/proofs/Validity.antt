@@ -1,0 +1,151 @@
+-- Valid registers: their ranges, so that nothing wraps, and that they stay valid.
+--
+--   facts        what a valid register's numbers are, as code needs them
+--   valid-next   a valid register stays valid after a step; valid-iter, after n
+--   iter-q       q stays
+use mathlib.Core.Path.{_≡_, refl, sym, ap, _∙_, subst}
+use mathlib.Core.Bool.{Bool, true, false}
+use Prim.Native.Nat.{ℕ, zero, suc, _+_, _-_, _*_, _/_, _%_, _^_, _≤_, _<_}
+use native.Mathlib.Omega.{arith}
+use native.Mathlib.Nat.{mul-le-mul, mul-le-mul-right, not-suc-le-zero}
+use native.Mathlib.Numerals.{add-one}
+use borrow.Author.Tests.{leb-true, leb-false, ltb-true, ltb-false}
+use lib.Dec.{T, leb}
+use mir.Syntax.{w32, w64}
+use mir.Val.{SFits, toZ, ofZ}
+use mir.ValLaws.{toZ-ofZ}
+use lib.IntN.{ℤ, pos, negsuc, natAbs, _+ℤ_, _*ℤ_}
+use lib.Signed.{mag, leZ, ltZ}
+use Rattle.integers.specs.Numbers.{oddZ, halfZ, log2}
+use Rattle.integers.proofs.Log2.{log2-step, log2-below}
+use Rattle.integers.proofs.Sizes.{odd-lt, fits64}
+use Rattle.integers.proofs.Parts.{natAbs-+}
+use Rattle.bits.specs.Bits.{bitOf}
+use Rattle.fractions.specs.Pairs.{limit}
+use Rattle.fractions.specs.Answers.{Decides}
+use Rattle.registers.specs.Sums.{tapsTo, overTo}
+use Rattle.registers.specs.Registers.{cellCount, Valid, sumBelow, tapSum, sumOf, nextOf, iterOf, tap, cell}
+use Rattle.registers.specs.declared.Register.{Register}
+
+pub record Facts (g : Register) : Type 0 where
+  pub odd : g .q % 2 ≡ 1
+  pub small : g .q < 2 ^ 30
+  pub some : 1 ≤ cellCount (g .q)
+  pub few : cellCount (g .q) ≤ 30
+  pub cells : g .cells < 2 ^ cellCount (g .q)
+  pub memory : natAbs (g .memory) ≤ 2 ^ 30
+
+pub facts : (g : Register) → Valid g → Facts g
+facts g v =
+    record {
+      odd = v .odd;
+      small = omega (arith, v .q-most);
+      some = omega (arith, v .some, log2-step (g .q + 1) (omega (arith, v .some)));
+      few = omega (arith, log2-below 31 (g .q + 1) (omega arith) (omega (arith, v .q-most)));
+      cells = v .cells;
+      memory = v .memory;
+    }
+
+-- ---- the sum over the taps, as a natural number
+pub taps-more : (q a r k : ℕ) → tapsTo q a r (k + 1) ≡ tapsTo q a r k + bitOf (q + 1) (k + 1) * bitOf a (r - (k + 1))
+unfolding tapsTo
+taps-more q a r k = rw (add-one k)
+
+pub bit-mul : (a b : ℕ) → a % 2 * (b % 2) ≤ 1
+bit-mul a b = mul-le-mul {n₂ = 1} {m₂ = 1} (omega arith) (omega arith)
+
+pub taps-le : (q a r k : ℕ) → tapsTo q a r k ≤ k
+unfolding tapsTo
+taps-le q a r zero = omega arith
+taps-le q a r (suc k) = omega (arith, taps-le q a r k, bit-mul ((q + 1) / 2 ^ suc k) (a / 2 ^ (r - suc k)))
+
+pub over-more : (q a r k : ℕ) → overTo q a r (k + 1) ≡ overTo q a r k + bitOf (q + 1) (k + 1) * (a / 2 ^ (r - (k + 1)))
+unfolding overTo
+over-more q a r k = rw (add-one k)
+
+pub taps-are : (q a r : ℕ) → tapSum q a r ≡ pos (tapsTo q a r r)
+unfolding sumBelow tapsTo
+taps-are q a r = go r
+  where
+    go : (k : ℕ) → sumBelow k (λ k. tap q (suc k) *ℤ cell a (r - suc k)) ≡ pos (tapsTo q a r k)
+    go zero = refl
+    go (suc k) = ap (λ (z : ℤ). z +ℤ pos (bitOf (q + 1) (suc k)) *ℤ pos (bitOf a (r - suc k))) (go k)
+
+pub sum-is : (g : Register) → sumOf g ≡ g .memory +ℤ pos (tapsTo (g .q) (g .cells) (cellCount (g .q)) (cellCount (g .q)))
+sum-is g = ap (λ (z : ℤ). g .memory +ℤ z) (taps-are (g .q) (g .cells) (cellCount (g .q)))
+
+-- ---- a step keeps a register valid
+pub cells-next : (a o r : ℕ) → 1 ≤ r → a < 2 ^ r → o < 2 → a / 2 + o * 2 ^ (r - 1) < 2 ^ r
+cells-next a o zero h l k = absurd (not-suc-le-zero h)
+cells-next a o (suc r) h l k =
+    let e : suc r - 1 ≡ r = omega arith in
+    let p : o * 2 ^ r ≤ 1 * 2 ^ r = mul-le-mul-right (2 ^ r) (omega arith) in
+    rw e (omega arith)
+
+half-size : (z : ℤ) → 2 * natAbs (halfZ z) ≤ natAbs z + 1
+half-size (pos n) = omega arith
+half-size (negsuc n) = omega arith
+
+pub memory-next : (g : Register) → Valid g → natAbs (halfZ (sumOf g)) ≤ 2 ^ 30
+memory-next g v =
+    let f = facts g v in
+    let r = cellCount (g .q) in
+    let s = tapsTo (g .q) (g .cells) r r in
+    let e : natAbs (sumOf g) ≡ natAbs (g .memory +ℤ pos s) = ap natAbs (sum-is g) in
+    omega (arith, half-size (sumOf g), natAbs-+ (g .memory) (pos s), taps-le (g .q) (g .cells) r r)
+
+pub valid-next : (g : Register) → Valid g → Valid (nextOf g)
+valid-next g v =
+    let f = facts g v in
+    record {
+      odd = v .odd;
+      some = v .some;
+      q-most = v .q-most;
+      cells = cells-next (g .cells) (oddZ (sumOf g)) (cellCount (g .q)) (f .some) (v .cells) (odd-lt (sumOf g));
+      memory = memory-next g v;
+    }
+
+pub valid-iter : (n : ℕ) (g : Register) → Valid g → Valid (iterOf n g)
+unfolding iterOf
+valid-iter zero g v = v
+valid-iter (suc n) g v = valid-next (iterOf n g) (valid-iter n g v)
+
+pub iter-q : (n : ℕ) (g : Register) → iterOf n g .q ≡ g .q
+unfolding iterOf
+iter-q zero g = refl
+iter-q (suc n) g = iter-q n g
+
+pub iter-more : (n : ℕ) (g : Register) → iterOf (n + 1) g ≡ nextOf (iterOf n g)
+unfolding iterOf
+iter-more n g = rw (add-one n)
+
+-- ---- the memory's range, as code tests it
+pub memory-low : (m : ℤ) → ltZ m (negsuc 1073741823) ≡ true → 2 ^ 30 < natAbs m
+memory-low (pos n) e = absurd (subst T (sym e) tt)
+memory-low (negsuc n) e = omega (arith, ltb-true 1073741823 n e)
+
+pub memory-tested : (m : ℤ) → ltZ m (negsuc 1073741823) ≡ false → Decides (natAbs m ≤ 2 ^ 30) (leZ m (pos 1073741824))
+memory-tested (pos n) l = go (leb n 1073741824) (leb-true n 1073741824) (leb-false n 1073741824)
+  where
+    go : (b : Bool) → (b ≡ true → n ≤ 1073741824) → (b ≡ false → 1073741824 < n) → Decides (n ≤ 2 ^ 30) b
+    go true f g = f refl
+    go false f g = λ h. omega (arith, g refl)
+memory-tested (negsuc n) l = omega (arith, ltb-false 1073741823 n l)
+
+-- the last test decides, once the others have passed
+pub valid-tested : (g : Register) (b : Bool) → g .q % 2 ≡ 1 → g .q ≤ limit → g .cells < 2 ^ cellCount (g .q)
+    → Decides (natAbs (g .memory) ≤ 2 ^ 30) b → Decides (Valid g) b
+valid-tested g true o m c d = record { odd = o; some = omega arith; q-most = m; cells = c; memory = d }
+valid-tested g false o m c d = λ v. d (v .memory)
+
+-- to move down: integers (it is private there)
+pub mag-size : (z : ℤ) → mag z ≤ natAbs z
+mag-size (pos n) = omega arith
+mag-size (negsuc n) = omega arith
+
+-- what the machine reads back of a number at most 2^30
+pub back32 : (z : ℤ) → natAbs z ≤ 2 ^ 30 → toZ w32 (ofZ w32 z) ≡ z
+back32 z h = toZ-ofZ w32 z (record { sfits = omega (arith, mag-size z) })
+
+pub back64 : (z : ℤ) → natAbs z < 2 ^ 63 → toZ w64 (ofZ w64 z) ≡ z
+back64 z h = toZ-ofZ w64 z (fits64 z h)

@@ -1,0 +1,20 @@
+-- `registers::signed::narrow` meets its contract: what is at most 2^30 fits 32 bits.
+use native.Mathlib.Omega.{arith}
+use mir.Syntax.{w32, w64}
+use mir.Val.{SFits}
+use mir.ValLaws.{toZ-ofZ}
+use Rattle.registers.proofs.Validity.{mag-size}
+use Rattle.registers.proofs.signed.narrow.Statement.{statement}
+use Rattle.registers.proofs.signed.narrow.Tie as tie
+
+fits : (c : tie.Start) → SFits w32 (c .args .m)
+fits c = record { sfits = omega (arith, mag-size (c .args .m)) }
+
+cast-result : tie.Need-cast-result
+cast-result c = rw (toZ-ofZ w64 (c .args .m) (c .fits .m)) (fits c)
+
+returns : tie.Need-returns
+returns c = rw (toZ-ofZ w64 (c .args .m) (c .fits .m)) (toZ-ofZ w32 (c .args .m) (fits c))
+
+pub narrow-spec : {M : Type 1} → statement M
+narrow-spec = tie.close (tie.spec cast-result returns)

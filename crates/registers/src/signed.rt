@@ -1,0 +1,49 @@
+// The few operations on signed numbers. A register keeps its memory in 32 bits; sums are made in 64, so the widths meet here alone.
+ghost use mathlib.Core.Path.{_≡_};
+ghost use Prim.Native.Nat.{ℕ, _^_, _≤_};
+ghost use lib.IntN.{pos, natAbs, _+ℤ_};
+ghost use Rattle.integers.specs.Numbers.{oddZ, halfZ};
+ghost use Rattle.fractions.specs.Answers.{Decides};
+
+pub fn wide(m: i32) -> i64
+    ensures { λ r. ⌜ r ≡ m ⌝ }
+{
+    m as i64
+}
+
+pub fn narrow(m: i64) -> i32
+    requires { ⌜ natAbs m ≤ 2 ^ 30 ⌝ }
+    ensures { λ r. ⌜ r ≡ m ⌝ }
+{
+    m as i32
+}
+
+// Whether a memory is from -2^30 to 2^30.
+pub fn memory_fits(m: i64) -> bool
+    ensures { λ r. ⌜ Decides (natAbs m ≤ 2 ^ 30) r ⌝ }
+{
+    if m < -1073741824 {
+        return false;
+    }
+    m <= 1073741824
+}
+
+pub fn plus(m: i64, n: u32) -> i64
+    requires { ⌜ (natAbs m ≤ 2 ^ 30) × (n ≤ 30) ⌝ }
+    ensures { λ r. ⌜ r ≡ m +ℤ pos n ⌝ }
+{
+    m + (n as i64)
+}
+
+// Half of it, rounded down: half of -1 is -1.
+pub fn half_down(s: i64) -> i64
+    ensures { λ r. ⌜ r ≡ halfZ s ⌝ }
+{
+    s >> 1
+}
+
+pub fn odd(s: i64) -> u32
+    ensures { λ r. ⌜ r ≡ oddZ s ⌝ }
+{
+    if s & 1 == 0 { 0 } else { 1 }
+}
