@@ -195,7 +195,7 @@ y-over q a o l =
     (omega (arith, mod-eq-of-lt l, y-is q a r, part-over q a o, parts-- (pos (a * q)) (pos S)))
 
 -- ---- how large y is
-part-le : (q a r k : ℕ) → k ≤ r → partTo q a r k ≤ k * 2 ^ r
+pub part-le : (q a r k : ℕ) → k ≤ r → partTo q a r k ≤ k * 2 ^ r
 unfolding partTo
 part-le q a r zero h = omega arith
 part-le q a r (suc k) h =
