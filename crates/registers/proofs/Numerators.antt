@@ -13,7 +13,7 @@ use lib.IntN.{ℤ, pos, negsuc, _+ℤ_, _-ℤ_, _*ℤ_}
 use Rattle.integers.specs.Numbers.{oddZ, halfZ, log2}
 use Rattle.integers.proofs.Sizes.{odd-lt}
 use Rattle.integers.proofs.Parts.{up, down, eq-of, parts-+, parts--, parts-*pos, parts-half}
-use Rattle.integers.proofs.Ring.{ring2, ring5, lit, #, _⊕_, _⊖_, _⊗_, _≔_}
+use Rattle.integers.proofs.Ring.{ring2, ring4, ring5, lit, #, _⊕_, _⊖_, _⊗_, _≔_}
 use Rattle.integers.proofs.Log2.{log2-upper}
 use Rattle.bits.specs.Bits.{bitOf}
 use Rattle.registers.specs.Sums.{tapsTo, overTo}
@@ -204,3 +204,15 @@ part-le q a r (suc k) h =
     let b : bitOf (q + 1) (suc k) * 2 ^ suc k ≤ 1 * 2 ^ suc k = mul-le-mul {n₂ = 1} {m₂ = 2 ^ suc k} (omega arith) (omega arith) in
     let t : bitOf (q + 1) (suc k) * 2 ^ suc k * (a % 2 ^ (r - suc k)) ≤ 1 * 2 ^ suc k * 2 ^ (r - suc k) = mul-le-mul {n₂ = 1 * 2 ^ suc k} {m₂ = 2 ^ (r - suc k)} b (omega arith) in
     omega (arith, part-le q a r k (omega arith), pow-split r k h)
+
+-- the numerator, as code computes it
+pub numerator-over : (g : Register) → Valid g
+    → numOf g ≡ pos (g .cells * g .q) -ℤ (pos (overTo (g .q) (g .cells) (cellCount (g .q)) (cellCount (g .q))) +ℤ g .memory) *ℤ pos (2 ^ cellCount (g .q))
+numerator-over g v =
+    let r = cellCount (g .q) in
+    ap (λ (y : ℤ). y -ℤ g .memory *ℤ pos (2 ^ r)) (y-over (g .q) (g .cells) (v .odd) (v .cells))
+    ∙ ring4 (λ x w s m. x ⊖ w ⊗ s ⊖ m ⊗ w ≔ x ⊖ (s ⊕ m) ⊗ w) tt (pos (g .cells * g .q)) (pos (2 ^ r)) (pos (overTo (g .q) (g .cells) r r)) (g .memory)
+
+-- the part that is taken off is at most the product
+pub over-le : (q a : ℕ) → q % 2 ≡ 1 → overTo q a (cellCount q) (cellCount q) * 2 ^ cellCount q ≤ a * (q + 1)
+over-le q a o = omega (arith, part-over q a o)

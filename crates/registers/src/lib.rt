@@ -7,12 +7,14 @@ ghost use Rattle.registers.specs.Answers.{Steps, stepNumber, stepBit, st
 use fractions::Fraction;
 use fractions::LIMIT;
 use signed::half_down;
+use signed::less;
 use signed::memory_fits;
 use signed::narrow;
 use signed::odd;
 use signed::plus;
 use signed::wide;
 use sums::cell_count;
+use sums::overflow;
 use sums::power;
 use sums::tap_sum;
 
@@ -97,4 +99,17 @@ pub fn step(g: Register) -> Stepped
     } else {
         Stepped::Invalid(g)
     }
+}
+
+// The numerator y - m 2^r of a valid register. Not an entry point: its callers in other crates show that the register is valid.
+// By the law y-over the double sum y is cells q - overflow 2^r, which needs one loop and not two.
+pub fn numerator(g: Register) -> i64
+    requires { ⌜ Valid g ⌝ }
+    ensures { λ r. ⌜ r ≡ numOf g ⌝ }
+{
+    let q = g.q;
+    let cells = g.cells;
+    let r = cell_count(q);
+    let product = (cells as u64) * (q as u64);
+    less(product, overflow(q, cells, r), wide(g.memory), power(r))
 }

@@ -1,7 +1,7 @@
 // The few operations on signed numbers. A register keeps its memory in 32 bits; sums are made in 64, so the widths meet here alone.
 ghost use mathlib.Core.Path.{_≡_};
-ghost use Prim.Native.Nat.{ℕ, _^_, _≤_};
-ghost use lib.IntN.{pos, natAbs, _+ℤ_};
+ghost use Prim.Native.Nat.{ℕ, _*_, _^_, _≤_, _<_};
+ghost use lib.IntN.{pos, natAbs, _+ℤ_, _-ℤ_, _*ℤ_};
 ghost use Rattle.integers.specs.Numbers.{oddZ, halfZ};
 ghost use Rattle.fractions.specs.Answers.{Decides};
 
@@ -46,4 +46,12 @@ pub fn odd(s: i64) -> u32
     ensures { λ r. ⌜ r ≡ oddZ s ⌝ }
 {
     if s & 1 == 0 { 0 } else { 1 }
+}
+
+// x - (s + m) w
+pub fn less(x: u64, s: u64, m: i64, w: u32) -> i64
+    requires { ⌜ (x < 2 ^ 60) × (s < 2 ^ 40) × (natAbs m ≤ 2 ^ 30) × (s * w ≤ 2 ^ 61) × (w ≤ 2 ^ 30) ⌝ }
+    ensures { λ r. ⌜ r ≡ pos x -ℤ (pos s +ℤ m) *ℤ pos w ⌝ }
+{
+    x as i64 - (s as i64 + m) * (w as i64)
 }
