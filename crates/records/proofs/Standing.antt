@@ -7,13 +7,14 @@
 --   bytes-few             the bytes of a record's bits are as few as hold them
 --   entry-bit             bit i of a record is bit i of its own bytes
 --   entry-spare           the spare bits of its bytes are zero
+--   stands-where           a record stands wherever its bytes stand, with the same meter and bits: nothing outside them counts
 use Prim.Native.Nat.{ℕ, zero, suc, _+_, _-_, _*_, _/_, _%_, _^_, _≤_, _<_}
 use mathlib.Core.Path.{_≡_, refl, sym, ap, _∙_, subst}
 use mathlib.Core.Bool.{Bool, true, false, cond}
 use mathlib.Core.List.{List, [], _∷_}
 use native.Mathlib.Omega.{arith}
 use lib.ListN.{length, getD, take, drop, length-drop}
-use lib.Seq.{length-take-le, getD-take, getD-drop}
+use lib.Seq.{length-take-le, getD-take, getD-drop, ext-getD}
 use lib.Dec.{ltb, leb, eqb}
 use borrow.Author.Tests.{ltb-true, ltb-false, leb-false, eqb-true, eqb-false, eq-eqb, ne-eqb, lt-ltb, le-ltb, lt-leb}
 use Rattle.bits.specs.Bits.{num, digits, Below, bitAt}
@@ -145,3 +146,45 @@ module _ (block : List ℕ) (at : ℕ) (r : Record) where
 
 pub bytes-few : (count : ℕ) → (count ≤ 8 * bytesFor count) × ((n : ℕ) → count ≤ 8 * n → bytesFor count ≤ n)
 bytes-few count = (omega arith, λ n h. omega arith)
+
+-- ---- a record that stands somewhere stands wherever its bytes stand: nothing outside them counts
+module _ (s : List ℕ) (at : ℕ) (r : Record) (st : Stands s at r) (t : List ℕ) (to : ℕ) (long : to + (r .next - at) ≤ length t)
+    (same : (i : ℕ) → i < r .next - at → getD t (to + i) 0 ≡ getD s (at + i) 0) where
+  abbrev pub placed : Record
+  placed = record { meter = r .meter; count = r .count; start = to + headerSize; next = to + (r .next - at) }
+
+  two-same : (i : ℕ) → i + 1 < r .next - at → twoBytes t (to + i) ≡ twoBytes s (at + i)
+  two-same i h =
+      let p : getD t (to + i + 1) 0 ≡ getD s (at + i + 1) 0 = ap (λ (k : ℕ). getD t k 0) (omega arith) ∙ same (i + 1) h ∙ ap (λ (k : ℕ). getD s k 0) (omega arith) in
+      omega (arith, same i (omega arith))
+
+  few : bytesFor (r .count) + headerSize ≡ r .next - at
+  few = omega (arith, st .starts, st .ends)
+
+  pub payload-where : payload t (to + headerSize) (r .count) ≡ payload s (r .start) (r .count)
+  payload-where =
+      let n = bytesFor (r .count) in
+      let p : length (payload t (to + headerSize) (r .count)) ≡ n = length-take-le n (drop (to + headerSize) t) (rw length-drop (omega (arith, few))) in
+      ext-getD 0 (payload t (to + headerSize) (r .count)) (payload s (r .start) (r .count)) (p ∙ sym (payload-long s at r st))
+      (λ i h.
+      getD-take n (drop (to + headerSize) t) i 0 (omega arith) ∙ getD-drop (to + headerSize) t i 0
+      ∙ ap (λ (k : ℕ). getD t k 0) (omega arith) ∙ same (headerSize + i) (omega (arith, few)) ∙ ap (λ (k : ℕ). getD s k 0) (omega (arith, st .starts))
+      ∙ sym (getD-take n (drop (r .start) s) i 0 (omega arith) ∙ getD-drop (r .start) s i 0))
+
+  pub stands-where : Stands t to placed
+  stands-where = record {
+    starts = refl;
+    ends = omega (arith, few);
+    last = long;
+    mark-is = ap (λ (k : ℕ). twoBytes t k) (omega arith) ∙ two-same 0 (omega (arith, few)) ∙ ap (λ (k : ℕ). twoBytes s k) (omega arith) ∙ st .mark-is;
+    meter-is = two-same meterAt (omega (arith, few)) ∙ st .meter-is;
+    count-is = two-same countAt (omega (arith, few)) ∙ st .count-is;
+    meter-low = st .meter-low;
+    meter-high = st .meter-high;
+    count-low = st .count-low;
+    count-high = st .count-high;
+    spare = subst (λ (x : List ℕ). num 256 x < 2 ^ r .count) (sym payload-where) (st .spare);
+  }
+
+  pub bits-where : entryOf t to placed .bits ≡ entryOf s at r .bits
+  bits-where = ap (λ (x : List ℕ). digits 2 (r .count) (num 256 x)) payload-where
