@@ -1,0 +1,215 @@
+/*
+ * Cocklejoist: learning, running and unwhitening the feedback-with-carry shift registers of a meter series.
+ *
+ * A C interface to a proved library. Link the one archive target/staticlib/libcapi.a ("rt staticlib capi" writes it; x86-64
+ * Linux). C99 or later, or C++.
+ *
+ * Words
+ *   burst      up to CJ_MOST_BITS bits; bit i is in byte i/8 with weight 2^(i mod 8).
+ *   pair       a fraction p/q. Inside the limits: q odd, 1 <= q <= CJ_LIMIT, -CJ_LIMIT <= p <= CJ_LIMIT.
+ *   fits       (p, q) fits a burst of n bits with value A (the sum of bit i times 2^i) when A*q - p is divisible by 2^n.
+ *   register   q, r cells and a signed memory, r = floor(log2(q+1)). Valid: q odd, 1 <= q <= CJ_LIMIT, cells below 2^r,
+ *              -CJ_MOST_MEMORY <= memory <= CJ_MOST_MEMORY. Cell a_0, the next bit to come out, is the lowest bit of `cells`.
+ *   block      0 to CJ_BLOCK_BYTES bytes of records end to end. A record: 5A C3; meter, two bytes, high first, 1 to CJ_METERS;
+ *              bit count, two bytes, high first, 1 to CJ_RECORD_BITS; the bits in as few bytes as hold them, spare bits zero.
+ *   store      CJ_METERS places of CJ_PLACE_BYTES bytes, place k for meter k: a count, two bytes, high first, 0 to
+ *              CJ_MOST_BITS; then 512 bytes of bits, zero at and past the count. A fresh store is all zero.
+ *
+ * Who owns what
+ *   Every buffer is the caller's, before and after. It is lent for the length of the call: nothing is kept, nothing is
+ *   allocated, nothing is freed. `const` buffers are only read. A function touches the bytes it is lent and no others.
+ *   Buffers of one call must not overlap. A pointer must not be null, even where its length is 0.
+ *   There is no state of the library's own: calls from several threads are safe as long as no two of them are lent the same
+ *   bytes or register with one of them writing.
+ *
+ * Refusals
+ *   Every answer begins with `refusal`: CJ_OK, or the number of the rule that was broken. On a refusal nothing lent has changed, every
+ *   other number of the answer is 0, and a register that was handed over by value comes back as it was given. Where several
+ *   rules are broken, the function's comment lists its refusals in the order in which they are tried.
+ */
+#ifndef COCKLEJOIST_H
+#define COCKLEJOIST_H
+
+#include <stddef.h>
+#include <stdint.h>
+
+#ifdef __cplusplus
+extern "C" {
+#endif
+
+#define CJ_LIMIT 1073741823         /* 2^30 - 1: the largest q, and the largest p of either sign */
+#define CJ_MOST_MEMORY 1073741824   /* 2^30: the largest memory of a valid register, of either sign */
+#define CJ_MOST_BITS 4096           /* the bits of the longest burst, and of a full place */
+#define CJ_TABLE_LARGEST 1023       /* the largest q of the period table */
+#define CJ_WHITEN_BYTES 512         /* the most bytes to whiten in one call */
+#define CJ_METERS 32                /* meters, and places of a store */
+#define CJ_PLACE_BYTES 514          /* one place of a store */
+#define CJ_STORE_BYTES 16448        /* a store: CJ_METERS * CJ_PLACE_BYTES */
+#define CJ_BLOCK_BYTES 16384        /* the longest block */
+#define CJ_HEADER_BYTES 6           /* a record before its bits */
+#define CJ_RECORD_BITS 512          /* the most bits of one record */
+
+/* The numbers for no. */
+enum {
+    CJ_OK = 0,
+    CJ_BURST_TOO_LONG = 1,      /* burst count above CJ_MOST_BITS */
+    CJ_BYTES_MISSING = 2,       /* fewer bytes than the count needs */
+    CJ_NO_PAIR = 3,             /* no fitting pair inside the limits */
+    CJ_OUTSIDE_LIMITS = 4,      /* pair, or table denominator, outside its limits */
+    CJ_REGISTER_INVALID = 5,    /* register not valid */
+    CJ_ALLOWANCE_TOO_SMALL = 6, /* allowance smaller than lead-in plus period */
+    CJ_READ_BACK_OUTSIDE = 7,   /* read-back pair, in lowest terms, outside the limits */
+    CJ_MEMORY_OUTSIDE = 8,      /* loaded memory would be outside -CJ_MOST_MEMORY to CJ_MOST_MEMORY */
+    CJ_TOO_MUCH_TO_WHITEN = 9,  /* more than CJ_WHITEN_BYTES bytes to whiten */
+    CJ_STORE_INVALID = 10,      /* store not CJ_STORE_BYTES bytes, or any place breaks its rules */
+    CJ_BLOCK_TOO_LONG = 11,     /* block above CJ_BLOCK_BYTES bytes */
+    CJ_RECORD_CUT = 12,         /* only 1 to 5 bytes left where a record should begin, or its bits run past the block */
+    CJ_MARK_WRONG = 13,         /* mark not 5A C3 */
+    CJ_METER_WRONG = 14,        /* meter number not 1 to CJ_METERS */
+    CJ_BIT_COUNT_WRONG = 15,    /* bit count 0 or above CJ_RECORD_BITS */
+    CJ_SPARE_BIT_SET = 16,      /* spare bit of a record's last byte set */
+    CJ_PLACE_FULL = 17          /* meter's count would pass CJ_MOST_BITS */
+};
+
+/* A register, handed over by value. Only cj_whiten takes it by pointer, and changes it. */
+typedef struct cj_register {
+    uint32_t q;
+    uint32_t cells;
+    int32_t memory;
+} cj_register;
+
+/* A pair, learned or read back. */
+typedef struct cj_fraction {
+    uint32_t refusal;
+    int32_t p;
+    uint32_t q;
+} cj_fraction;
+
+/* A loaded register: its fields after the refusal are those of cj_register. */
+typedef struct cj_loaded {
+    uint32_t refusal;
+    uint32_t q;
+    uint32_t cells;
+    int32_t memory;
+} cj_loaded;
+
+/* The bit that was emitted, 0 or 1, and the register after the step. */
+typedef struct cj_stepped {
+    uint32_t refusal;
+    uint32_t bit;
+    uint32_t q;
+    uint32_t cells;
+    int32_t memory;
+} cj_stepped;
+
+/* Lead-in, period, and the two together. */
+typedef struct cj_walked {
+    uint32_t refusal;
+    uint32_t lead;
+    uint32_t period;
+    uint32_t sum;
+} cj_walked;
+
+/* The storage that a register needs. */
+typedef struct cj_storage {
+    uint32_t refusal;
+    uint32_t cells;
+    uint32_t memory_bits;
+} cj_storage;
+
+/* An entry of the period table. */
+typedef struct cj_entry {
+    uint32_t refusal;
+    uint32_t period;
+} cj_entry;
+
+/* The first 64 bits that a pair gives, the first bit lowest. (Four bytes of padding follow the refusal.) */
+typedef struct cj_word {
+    uint32_t refusal;
+    uint64_t word;
+} cj_word;
+
+/* How a block was taken. `place` is the first byte of the offending record; 0 for CJ_STORE_INVALID and CJ_BLOCK_TOO_LONG. */
+typedef struct cj_taken {
+    uint32_t refusal;
+    uint32_t place;
+} cj_taken;
+
+/*
+ * The smallest pair that fits the first `count` bits of `bytes`: of the fitting pairs inside the limits, the one with the least size
+ * (the larger of |p| and q); among those the least |p|; then the least q; then p not negative. No bits: (0, 1).
+ * Bits past the count and further bytes have no effect.
+ * Refuses, in this order: CJ_BURST_TOO_LONG, CJ_BYTES_MISSING, CJ_NO_PAIR (exactly when no pair inside the limits fits).
+ */
+cj_fraction cj_learn(const uint8_t *bytes, size_t len, uint64_t count);
+
+/*
+ * The same for the bits in the place of `meter` (1 to CJ_METERS) of a store.
+ * Refuses, in this order: CJ_STORE_INVALID, CJ_METER_WRONG, CJ_NO_PAIR.
+ */
+cj_fraction cj_learn_meter(const uint8_t *store, size_t len, uint32_t meter);
+
+/*
+ * The pair whose bits the register emits, in lowest terms with q positive; zero is (0, 1).
+ * Refuses, in this order: CJ_REGISTER_INVALID, CJ_READ_BACK_OUTSIDE.
+ */
+cj_fraction cj_read_back(cj_register r);
+
+/*
+ * The register that emits the bits of p/q. The pair need not be in lowest terms; the register keeps its q.
+ * Refuses, in this order: CJ_OUTSIDE_LIMITS, CJ_MEMORY_OUTSIDE.
+ */
+cj_loaded cj_load(int32_t p, uint32_t q);
+
+/*
+ * One step: the bit that comes out, and the register after it.
+ * Refuses: CJ_REGISTER_INVALID, and hands q, cells and memory back as given (bit 0).
+ */
+cj_stepped cj_step(cj_register r);
+
+/*
+ * Lead-in, the least L, and period, the least T >= 1, for which the state after L+T steps equals the state after L; and L+T.
+ * Refuses, in this order: CJ_REGISTER_INVALID, CJ_ALLOWANCE_TOO_SMALL (exactly when L+T exceeds the allowance).
+ */
+cj_walked cj_walk(cj_register r, uint32_t allowance);
+
+/*
+ * The cells of the register, r, and the bits that its memory needs once it has no lead-in: the bit length of w - 1,
+ * w being the number of ones in q+1.
+ * Refuses: CJ_REGISTER_INVALID.
+ */
+cj_storage cj_sheet(cj_register r);
+
+/*
+ * The least T >= 1 with 2^T - 1 divisible by q, from the table of the odd q from 1 to CJ_TABLE_LARGEST.
+ * Refuses: CJ_OUTSIDE_LIMITS (q even, 0 or larger).
+ */
+cj_entry cj_period(uint32_t q);
+
+/*
+ * The whole number u below 2^64 with u*q - p divisible by 2^64: the first 64 bits of p/q, the first bit lowest.
+ * Refuses: CJ_OUTSIDE_LIMITS.
+ */
+cj_word cj_output_word(int32_t p, uint32_t q);
+
+/*
+ * Combines each of the `len` bytes by exclusive or with the next eight bits of the register, the first bit lowest, and leaves
+ * *r stepped eight times for each byte. The same starting register applied twice gives the first bytes back.
+ * Answers CJ_OK or a refusal, in this order: CJ_REGISTER_INVALID, CJ_TOO_MUCH_TO_WHITEN; on a refusal neither *r nor a byte has changed.
+ */
+uint32_t cj_whiten(cj_register *r, uint8_t *bytes, size_t len);
+
+/*
+ * Takes a block into the store: appends each record's bits, in block order, to its meter's place. A block is taken whole or
+ * refused whole; refused, no byte of the store has changed.
+ * Refuses, in this order: CJ_STORE_INVALID, CJ_BLOCK_TOO_LONG; then record by record CJ_RECORD_CUT (fewer than six bytes left),
+ * CJ_MARK_WRONG, CJ_METER_WRONG, CJ_BIT_COUNT_WRONG, CJ_RECORD_CUT (bits past the block's end), CJ_SPARE_BIT_SET; and only when every record has
+ * passed, CJ_PLACE_FULL at the first record that overfills its place.
+ */
+cj_taken cj_take(uint8_t *store, size_t store_len, const uint8_t *block, size_t block_len);
+
+#ifdef __cplusplus
+}
+#endif
+
+#endif
