@@ -1,0 +1,434 @@
+//! The reference with one mistake planted in it, to see that the comparison finds it. Many are slips that someone has made before.
+
+use crate::lent::{Bytes, Fenced};
+use crate::library::Library;
+use reference::answers::{Entry, Fraction, Loaded, Register, Stepped, Storage, Taken, Walked, Word};
+use reference::answers::{LIMIT, METERS, MOST_BITS, PLACE_BYTES, STORE_BYTES};
+use reference::fractions::{gcd, output_word, unpacked};
+use reference::learning::{learn, smallest};
+use reference::registers::{self, is_valid, length, numerator, stepped};
+use reference::store::{bursts, learn_meter, record_of, records, store_of, take};
+use reference::{periods, walking, whitening};
+
+pub struct Mistake {
+    pub function: &'static str,
+    pub name: &'static str,
+}
+
+const fn mistake(function: &'static str, name: &'static str) -> Mistake {
+    Mistake { function, name }
+}
+
+pub const MISTAKES: &[Mistake] = &[
+    mistake("cj_learn", "least q before least |p|"),
+    mistake("cj_learn", "p negative where both signs fit"),
+    mistake("cj_learn", "even q taken where it is smaller"),
+    mistake("cj_learn", "size 2^30 - 1 refused"),
+    mistake("cj_learn", "size 2^30 answered"),
+    mistake("cj_learn", "bits past the 64th not looked at"),
+    mistake("cj_learn", "last of 4,096 bits not looked at"),
+    mistake("cj_learn", "bits past the count looked at"),
+    mistake("cj_learn", "2 before 1"),
+    mistake("cj_learn", "4,096 bits refused"),
+    mistake("cj_learn", "a pair beside the refusal"),
+    mistake("cj_learn", "a lent byte changed"),
+    mistake("cj_learn_meter", "14 before 10"),
+    mistake("cj_learn_meter", "place 32 not judged"),
+    mistake("cj_learn_meter", "last byte of a place not judged"),
+    mistake("cj_learn_meter", "a full place refused"),
+    mistake("cj_learn_meter", "meter modulo 256"),
+    mistake("cj_learn_meter", "store of one byte more accepted"),
+    mistake("cj_read_back", "not in lowest terms"),
+    mistake("cj_read_back", "limits before lowest terms"),
+    mistake("cj_read_back", "p = -B refused"),
+    mistake("cj_read_back", "p = 2^30 answered"),
+    mistake("cj_read_back", "zero keeps its q"),
+    mistake("cj_load", "q = B refused"),
+    mistake("cj_load", "p = -B refused"),
+    mistake("cj_load", "p = -2^30 answered"),
+    mistake("cj_load", "lowest terms first"),
+    mistake("cj_load", "even q answered"),
+    mistake("cj_step", "-1 halves to 0"),
+    mistake("cj_step", "register not handed back"),
+    mistake("cj_step", "memory 2^30 refused"),
+    mistake("cj_step", "memory one past accepted"),
+    mistake("cj_step", "cells 2^r accepted"),
+    mistake("cj_step", "last tap missed"),
+    mistake("cj_walk", "period of q, not of lowest terms"),
+    mistake("cj_walk", "-q given a lead-in"),
+    mistake("cj_walk", "allowance must exceed the sum"),
+    mistake("cj_walk", "allowance for the period alone"),
+    mistake("cj_walk", "lead-in forgotten in the sum"),
+    mistake("cj_sheet", "bit length of w"),
+    mistake("cj_sheet", "r from q, not q+1"),
+    mistake("cj_period", "1,023 refused"),
+    mistake("cj_period", "0 for q = 1"),
+    mistake("cj_period", "even q answered"),
+    mistake("cj_output_word", "upper half from p's magnitude"),
+    mistake("cj_output_word", "p = -2^30 answered"),
+    mistake("cj_whiten", "512 bytes refused"),
+    mistake("cj_whiten", "9 before 5"),
+    mistake("cj_whiten", "register as it was"),
+    mistake("cj_whiten", "one step for no bytes"),
+    mistake("cj_whiten", "a byte behind changed"),
+    mistake("cj_whiten", "a refused register changed"),
+    mistake("cj_take", "room looked at while appending"),
+    mistake("cj_take", "17 before form"),
+    mistake("cj_take", "11 before 10"),
+    mistake("cj_take", "first record only"),
+    mistake("cj_take", "store untouched"),
+    mistake("cj_take", "4,096 bits refused"),
+    mistake("cj_take", "16,384 bytes refused"),
+    mistake("cj_take", "high byte of the meter ignored"),
+    mistake("cj_take", "513 bits accepted"),
+    mistake("cj_take", "512 bits refused"),
+    mistake("cj_take", "bits past the end before the count"),
+    mistake("cj_take", "mark before a short header"),
+    mistake("cj_take", "top spare bit not looked at"),
+    mistake("cj_take", "place of the next record"),
+    mistake("cj_take", "place beside 11"),
+    mistake("cj_take", "a byte behind the store changed"),
+    mistake("cj_take", "the block changed"),
+    mistake("cj_take", "first bit past the count not judged"),
+];
+
+pub struct Planted {
+    pub mistake: &'static str,
+}
+
+/// Every pair of a short burst, by an order of one's own.
+fn by_trying(bits: &[bool], step: usize, key: fn(i64, i64) -> (i64, i64, i64, bool)) -> Fraction {
+    let value: i64 = bits.iter().enumerate().map(|(i, &bit)| (bit as i64) << i).sum();
+    let fits = |p: i64, q: i64| (value * q - p).rem_euclid(1 << bits.len()) == 0;
+    let side = 1 << bits.len();
+    let pairs = (1..=side).step_by(step).flat_map(|q| (-side..=side).map(move |p| (p, q)));
+    let (p, q) = pairs.filter(|&(p, q)| fits(p, q)).min_by_key(|&(p, q)| key(p, q)).expect("(A, 1) fits");
+    Fraction::of(p, q)
+}
+
+/// A valid register with the same bits; what a mistake makes of an invalid one.
+fn lenient_step(register: Register) -> Stepped {
+    let (bit, Register { q, cells, memory }) = stepped(register);
+    Stepped { refusal: 0, bit: bit as u32, q, cells, memory }
+}
+
+impl Library for Planted {
+    fn learn(&self, bytes: &mut Bytes, count: u64) -> Fraction {
+        let lent = bytes.inside().to_vec();
+        let right = learn(&lent, count);
+        let n = count.min(4097) as usize;
+        let enough = lent.len() >= n.div_ceil(8) && n <= MOST_BITS;
+        match self.mistake {
+            "least q before least |p|" if enough && n <= 6 => by_trying(&unpacked(&lent, n), 2, |p, q| (p.abs().max(q), q, p.abs(), p < 0)),
+            "even q taken where it is smaller" if enough && n <= 6 => {
+                by_trying(&unpacked(&lent, n), 1, |p, q| (p.abs().max(q), p.abs(), q, p < 0))
+            }
+            "p negative where both signs fit" if right.refusal == 0 && n < 40 && (2 * right.p as i64) % (1 << n) == 0 => {
+                Fraction { p: -right.p, ..right }
+            }
+            "size 2^30 - 1 refused" if right.p as i64 == LIMIT || right.p as i64 == -LIMIT || right.q as i64 == LIMIT => {
+                Fraction::refused(3)
+            }
+            "size 2^30 answered" if enough => {
+                smallest(&unpacked(&lent, n), LIMIT + 1).map_or(Fraction::refused(3), |(p, q)| Fraction::of(p, q))
+            }
+            "bits past the 64th not looked at" if enough => learn(&lent, count.min(64)),
+            "last of 4,096 bits not looked at" if enough => learn(&lent, count.min(4095)),
+            "bits past the count looked at" if enough => learn(&lent, count.div_ceil(8) * 8),
+            "2 before 1" if lent.len() as u64 <= count / 8 && count % 8 != 0 => Fraction::refused(2),
+            "4,096 bits refused" if n == MOST_BITS => Fraction::refused(1),
+            "a pair beside the refusal" if right.refusal == 3 => Fraction { q: 1, ..right },
+            "a lent byte changed" => {
+                if let Some(last) = bytes.inside_mut().last_mut() {
+                    *last &= 0x7f;
+                }
+                right
+            }
+            _ => right,
+        }
+    }
+
+    fn learn_meter(&self, store: &mut Bytes, meter: u32) -> Fraction {
+        let lent = store.inside().to_vec();
+        let right = learn_meter(&lent, meter);
+        let mut mended = lent.clone();
+        match self.mistake {
+            "14 before 10" if !(1..=32).contains(&meter) => Fraction::refused(14),
+            "place 32 not judged" if lent.len() == STORE_BYTES && meter != 32 => {
+                mended[31 * PLACE_BYTES..].fill(0);
+                learn_meter(&mended, meter)
+            }
+            "last byte of a place not judged" if lent.len() == STORE_BYTES => {
+                for place in mended.chunks_mut(PLACE_BYTES) {
+                    if place[0] < 15 {
+                        place[PLACE_BYTES - 1] = 0;
+                    }
+                }
+                learn_meter(&mended, meter)
+            }
+            "a full place refused" if right.refusal != 10 && lent.chunks(PLACE_BYTES).any(|place| place[0] == 16) => Fraction::refused(10),
+            "meter modulo 256" => learn_meter(&lent, meter % 256),
+            "store of one byte more accepted" if lent.len() == STORE_BYTES + 1 => learn_meter(&lent[..STORE_BYTES], meter),
+            _ => right,
+        }
+    }
+
+    fn read_back(&self, register: Register) -> Fraction {
+        let right = registers::read_back(register);
+        if !is_valid(register) {
+            return right;
+        }
+        let p = numerator(register);
+        let (common, q) = (gcd(p.unsigned_abs(), register.q as u128) as i128, register.q as i128);
+        match self.mistake {
+            "not in lowest terms" if right.refusal == 0 && p.abs() <= LIMIT as i128 => Fraction::of(p as i64, q as i64),
+            "limits before lowest terms" if p.abs() > LIMIT as i128 => Fraction::refused(7),
+            "p = -B refused" if right.p as i64 == -LIMIT => Fraction::refused(7),
+            "p = 2^30 answered" if p / common == 1 << 30 => Fraction::of(1 << 30, (q / common) as i64),
+            "zero keeps its q" if p == 0 => Fraction::of(0, q as i64),
+            _ => right,
+        }
+    }
+
+    fn load(&self, p: i32, q: u32) -> Loaded {
+        let right = registers::load(p, q);
+        let refused = Loaded { refusal: 4, ..Loaded::default() };
+        match self.mistake {
+            "q = B refused" if q as i64 == LIMIT => refused,
+            "p = -B refused" if p as i64 == -LIMIT => refused,
+            "p = -2^30 answered" if p == -(1 << 30) && q % 2 == 1 && q as i64 <= LIMIT => {
+                let (cells, memory) = registers::state_of(p as i128, q);
+                Loaded { refusal: 0, q, cells, memory: memory as i32 }
+            }
+            "lowest terms first" if right.refusal == 0 => {
+                let common = gcd(p.unsigned_abs() as u128, q as u128) as i64;
+                registers::load((p as i64 / common) as i32, (q as i64 / common) as u32)
+            }
+            "even q answered" if q != 0 => registers::load(p, q | 1),
+            _ => right,
+        }
+    }
+
+    fn step(&self, register: Register) -> Stepped {
+        let right = registers::step(register);
+        let Register { q, cells, memory } = register;
+        let past = Register { memory: memory.clamp(-(1 << 30), 1 << 30), ..register };
+        match self.mistake {
+            "-1 halves to 0" if right.refusal == 0 && right.memory == -1 => Stepped { memory: 0, ..right },
+            "register not handed back" if right.refusal != 0 => Stepped { refusal: 5, ..Stepped::default() },
+            "memory 2^30 refused" if memory == 1 << 30 => Stepped { refusal: 5, bit: 0, q, cells, memory },
+            "memory one past accepted" if memory == -(1 << 30) - 1 && is_valid(past) => lenient_step(past),
+            "cells 2^r accepted" if q != 0 && cells as u64 == 1 << length(q) && is_valid(Register { cells: 0, ..register }) => {
+                lenient_step(Register { cells: 0, ..register })
+            }
+            "last tap missed" if right.refusal == 0 && cells & 1 == 1 && memory > -(1 << 30) => {
+                let missed = stepped(Register { memory: memory - 1, ..register }).1;
+                Stepped { cells: missed.cells, memory: missed.memory, ..right }
+            }
+            _ => right,
+        }
+    }
+
+    fn walk(&self, register: Register, allowance: u32) -> Walked {
+        let right = walking::walk(register, allowance);
+        if !is_valid(register) {
+            return right;
+        }
+        let all = walking::walk(register, u32::MAX);
+        let refused = Walked { refusal: 6, ..Walked::default() };
+        match self.mistake {
+            "period of q, not of lowest terms" if right.refusal == 0 => {
+                let period = periods::order_by_factors(register.q);
+                let sum = right.lead + period;
+                if sum <= allowance {
+                    Walked { period, sum, ..right }
+                } else {
+                    refused
+                }
+            }
+            "-q given a lead-in" if right.refusal == 0 && numerator(register) == -(register.q as i128) => {
+                Walked { lead: 1, sum: 2, ..right }
+            }
+            "allowance must exceed the sum" if right.refusal == 0 && right.sum == allowance => refused,
+            "allowance for the period alone" if all.period <= allowance => all,
+            "lead-in forgotten in the sum" => Walked { sum: right.period, ..right },
+            _ => right,
+        }
+    }
+
+    fn sheet(&self, register: Register) -> Storage {
+        let right = registers::sheet(register);
+        let w = (register.q as u64 + 1).count_ones();
+        match self.mistake {
+            "bit length of w" if right.refusal == 0 => Storage { memory_bits: 32 - w.leading_zeros(), ..right },
+            "r from q, not q+1" if right.refusal == 0 => Storage { cells: register.q.ilog2(), ..right },
+            _ => right,
+        }
+    }
+
+    fn period(&self, q: u32) -> Entry {
+        match self.mistake {
+            "1,023 refused" if q == 1023 => Entry { refusal: 4, period: 0 },
+            "0 for q = 1" if q == 1 => Entry { refusal: 0, period: 0 },
+            "even q answered" if q < 1024 => periods::period(q | 1),
+            _ => periods::period(q),
+        }
+    }
+
+    fn output_word(&self, p: i32, q: u32) -> Word {
+        let right = output_word(p, q);
+        match self.mistake {
+            "upper half from p's magnitude" if right.refusal == 0 => {
+                let other = output_word(p.abs(), q).word;
+                Word { word: right.word & 0xffff_ffff | other & !0xffff_ffff, ..right }
+            }
+            "p = -2^30 answered" if p == -(1 << 30) && output_word(0, q).refusal == 0 => {
+                Word { refusal: 0, word: output_word(1 << 29, q).word.wrapping_mul(2).wrapping_neg() }
+            }
+            _ => right,
+        }
+    }
+
+    fn whiten(&self, register: &mut Fenced, bytes: &mut Bytes) -> u32 {
+        let before = register.register;
+        let n = bytes.len();
+        match self.mistake {
+            "512 bytes refused" if n == 512 && is_valid(before) => return 9,
+            "9 before 5" if n > 512 => return 9,
+            "one step for no bytes" if n == 0 && is_valid(before) => {
+                register.register = stepped(before).1;
+                return 0;
+            }
+            _ => {}
+        }
+        let refusal = whitening::whiten(&mut register.register, bytes.inside_mut());
+        match self.mistake {
+            "register as it was" => register.register = before,
+            "a byte behind changed" if n == 512 => {
+                let behind = bytes.behind();
+                *bytes.guard_mut(behind) ^= 1;
+            }
+            "a refused register changed" if refusal == 9 => register.register = stepped(before).1,
+            _ => {}
+        }
+        refusal
+    }
+
+    fn take(&self, store: &mut Bytes, block: &mut Bytes) -> Taken {
+        let before = store.inside().to_vec();
+        let given = block.inside().to_vec();
+        let first_bytes =
+            |taken: &Taken, n: usize| given.get(taken.place as usize..).map_or(vec![], |rest| rest[..n.min(rest.len())].to_vec());
+        let right = take(store.inside_mut(), &given);
+        match self.mistake {
+            "room looked at while appending" if right.refusal == 17 => {
+                let mut places = bursts(&before).expect("17 comes after 10");
+                for record in
+                    records(&given).expect("17 comes after form").into_iter().take_while(|record| record.start < right.place as usize)
+                {
+                    places[record.meter - 1].extend(record.bits);
+                }
+                store.inside_mut().copy_from_slice(&store_of(&places));
+                right
+            }
+            "17 before form" if right.refusal >= 12 && right.refusal < 17 => {
+                take(&mut before.clone(), &given[..right.place as usize]).or(right)
+            }
+            "11 before 10" if given.len() > 16_384 => Taken { refusal: 11, place: 0 },
+            "first record only" if right.refusal == 0 && !given.is_empty() => {
+                let first = records(&given).expect("it was taken").remove(0);
+                store.inside_mut().copy_from_slice(&before);
+                take(store.inside_mut(), &record_of(first.meter, &first.bits))
+            }
+            "store untouched" => {
+                store.inside_mut().copy_from_slice(&before);
+                right
+            }
+            "4,096 bits refused"
+                if right.refusal == 0
+                    && store
+                        .inside()
+                        .chunks(PLACE_BYTES)
+                        .zip(before.chunks(PLACE_BYTES))
+                        .any(|(now, then)| now[0] == 16 && then[0] != 16) =>
+            {
+                store.inside_mut().copy_from_slice(&before);
+                Taken { refusal: 17, place: 0 }
+            }
+            "16,384 bytes refused" if right.refusal == 0 && given.len() == 16_384 => {
+                store.inside_mut().copy_from_slice(&before);
+                Taken { refusal: 11, place: 0 }
+            }
+            "high byte of the meter ignored" if right.refusal == 14 && (1..=METERS as u8).contains(&first_bytes(&right, 4)[3]) => {
+                let mut mended = given.clone();
+                mended[right.place as usize + 2] = 0;
+                take(store.inside_mut(), &mended)
+            }
+            "513 bits accepted" if right.refusal == 15 && first_bytes(&right, 6)[4..] == [2, 1] => Taken::default(),
+            "512 bits refused" if right.refusal == 0 => {
+                match records(&given).expect("it was taken").iter().find(|record| record.bits.len() == 512) {
+                    Some(record) => {
+                        store.inside_mut().copy_from_slice(&before);
+                        Taken { refusal: 15, place: record.start as u32 }
+                    }
+                    None => right,
+                }
+            }
+            "bits past the end before the count"
+                if right.refusal == 15 && first_bytes(&right, 6)[4] >= 2 && given.len() - (right.place as usize) < 71 =>
+            {
+                Taken { refusal: 12, ..right }
+            }
+            "mark before a short header" if right.refusal == 12 && first_bytes(&right, 1)[0] != 0x5A => Taken { refusal: 13, ..right },
+            "top spare bit not looked at" if right.refusal == 16 => {
+                let head = first_bytes(&right, 6);
+                let count = head[4] as usize * 256 + head[5] as usize;
+                let mut mended = given.clone();
+                mended[right.place as usize + 5 + count.div_ceil(8)] &= 0x7f;
+                take(store.inside_mut(), &mended)
+            }
+            "place of the next record" if right.refusal == 17 => Taken { place: right.place + 7, ..right },
+            "place beside 11" if right.refusal == 11 => Taken { place: 16_384, ..right },
+            "a byte behind the store changed" if right.refusal == 0 && given.len() > 16_000 => {
+                let behind = store.behind();
+                *store.guard_mut(behind) = 0;
+                right
+            }
+            "the block changed" if right.refusal == 0 => {
+                if let Some(last) = block.inside_mut().last_mut() {
+                    *last ^= 0x80;
+                }
+                right
+            }
+            "first bit past the count not judged" if right.refusal == 10 && before.len() == STORE_BYTES => {
+                for place in store.inside_mut().chunks_mut(PLACE_BYTES) {
+                    let count = place[0] as usize * 256 + place[1] as usize;
+                    if count < MOST_BITS {
+                        place[2 + count / 8] &= !(1 << (count % 8));
+                    }
+                }
+                let mended = take(store.inside_mut(), &given);
+                if mended.refusal == 10 {
+                    store.inside_mut().copy_from_slice(&before);
+                }
+                mended
+            }
+            _ => right,
+        }
+    }
+}
+
+trait Or {
+    fn or(self, other: Self) -> Self;
+}
+
+impl Or for Taken {
+    /// This refusal, where it is one of room, or the other.
+    fn or(self, other: Taken) -> Taken {
+        if self.refusal == 17 {
+            self
+        } else {
+            other
+        }
+    }
+}
