@@ -1,0 +1,54 @@
+/* The header alone, as C99 and as C++: it compiles without a word, and the layouts are those that other languages declare again. */
+#include "cocklejoist.h"
+
+/* An array of a negative size does not compile. */
+#define HOLDS(name, fact) typedef char name[(fact) ? 1 : -1]
+#define AT(name, type, field, place) HOLDS(name, offsetof(type, field) == (place))
+
+HOLDS(register_size, sizeof(cj_register) == 12);
+AT(register_q, cj_register, q, 0);
+AT(register_cells, cj_register, cells, 4);
+AT(register_memory, cj_register, memory, 8);
+
+HOLDS(fraction_size, sizeof(cj_fraction) == 12);
+AT(fraction_refusal, cj_fraction, refusal, 0);
+AT(fraction_p, cj_fraction, p, 4);
+AT(fraction_q, cj_fraction, q, 8);
+
+HOLDS(loaded_size, sizeof(cj_loaded) == 16);
+AT(loaded_refusal, cj_loaded, refusal, 0);
+AT(loaded_q, cj_loaded, q, 4);
+AT(loaded_cells, cj_loaded, cells, 8);
+AT(loaded_memory, cj_loaded, memory, 12);
+
+HOLDS(stepped_size, sizeof(cj_stepped) == 20);
+AT(stepped_refusal, cj_stepped, refusal, 0);
+AT(stepped_bit, cj_stepped, bit, 4);
+AT(stepped_q, cj_stepped, q, 8);
+AT(stepped_cells, cj_stepped, cells, 12);
+AT(stepped_memory, cj_stepped, memory, 16);
+
+HOLDS(walked_size, sizeof(cj_walked) == 16);
+AT(walked_refusal, cj_walked, refusal, 0);
+AT(walked_lead, cj_walked, lead, 4);
+AT(walked_period, cj_walked, period, 8);
+AT(walked_sum, cj_walked, sum, 12);
+
+HOLDS(storage_size, sizeof(cj_storage) == 12);
+AT(storage_refusal, cj_storage, refusal, 0);
+AT(storage_cells, cj_storage, cells, 4);
+AT(storage_memory_bits, cj_storage, memory_bits, 8);
+
+HOLDS(entry_size, sizeof(cj_entry) == 8);
+AT(entry_refusal, cj_entry, refusal, 0);
+AT(entry_period, cj_entry, period, 4);
+
+HOLDS(word_size, sizeof(cj_word) == 16);
+AT(word_refusal, cj_word, refusal, 0);
+AT(word_word, cj_word, word, 8);
+
+HOLDS(taken_size, sizeof(cj_taken) == 8);
+AT(taken_refusal, cj_taken, refusal, 0);
+AT(taken_place, cj_taken, place, 4);
+
+HOLDS(store_bytes, CJ_STORE_BYTES == CJ_METERS * CJ_PLACE_BYTES && CJ_PLACE_BYTES == 2 + CJ_MOST_BITS / 8);
