@@ -4,11 +4,13 @@
 --   brought-moved    where the records stand in the block makes no difference
 --   brought-join     a block behind another brings its bits after those of the first
 --   brought-none     records of which none names the meter bring it nothing
+--   counts-append    the counts of two lists of records add up
 --   brought-count    as many bits as the counts of the records that name the meter come to
 use Prim.Native.Nat.{ℕ, _+_}
 use mathlib.Core.Path.{_≡_, refl, sym, ap, _∙_}
 use mathlib.Core.Bool.{Bool, true, false, cond}
 use mathlib.Core.List.{List, [], _∷_, _++_, map, flatten, append-assoc}
+use native.Mathlib.Omega.{arith}
 use lib.ListN.{length, length-append}
 use lib.Dec.{eqb}
 use Rattle.records.specs.declared.Form.the-variants as F
@@ -60,3 +62,8 @@ length-bits (e ∷ es) = length-append (e .bits) _ ∙ ap (λ (n : ℕ). length 
 
 pub brought-count : (m : ℕ) (es : List Entry) → length (brought m es) ≡ counts (named m es)
 brought-count m es = length-bits (named m es)
+
+pub counts-append : (es fs : List Entry) → counts (es ++ fs) ≡ counts es + counts fs
+unfolding counts
+counts-append [] fs = omega arith
+counts-append (e ∷ es) fs = let h = counts-append es fs in omega arith

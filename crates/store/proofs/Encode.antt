@@ -27,7 +27,7 @@ both true u e = (refl, e)
 both false true e = (e, refl)
 both false false e = (e, e)
 
-place-parts : (s : List ℕ) (at : ℕ) → isPlace s at ≡ true → (countOf s at ≤ mostBits) × (num 256 (held s at) < 2 ^ countOf s at)
+pub place-parts : (s : List ℕ) (at : ℕ) → isPlace s at ≡ true → (countOf s at ≤ mostBits) × (num 256 (held s at) < 2 ^ countOf s at)
 unfolding isPlace
 place-parts s at e =
     let t = both (leb (countOf s at) mostBits) (ltb (num 256 (held s at)) (2 ^ countOf s at)) e in
@@ -180,6 +180,9 @@ module _ (l : List (List ℕ)) (k : ℕ) (h : k < length l) where
 
   back : drop (placeSize * k) (encodeAll l) ≡ encode (getD l k []) ++ encodeAll (drop (suc k) l)
   back = ap (drop (placeSize * k)) in-sight ∙ drop-at (encodeAll (take k l)) _ (placeSize * k) before-long
+
+  pub place-of : take placeSize (drop (placeSize * k) (encodeAll l)) ≡ encode (getD l k [])
+  place-of = ap (take placeSize) back ∙ take-at (encode (getD l k [])) (encodeAll (drop (suc k) l)) placeSize (length-encode (getD l k []))
 
   pub with-set : (b : List ℕ) → encodeAll (set l k b) ≡ encodeAll (take k l) ++ (encode b ++ encodeAll (drop (suc k) l))
   with-set b = ap encodeAll (set-split l k b h) ∙ around l k b

@@ -9,11 +9,12 @@
 --   isStore s              not refused by 10: "store not 16,448 bytes, or any place breaks the rules above"
 --   bitsAt s at            the bits of the place at `at`
 --   bitsOf s               the bits of each place, by rising meter number
+--   fresh                  "A fresh store is all zero."
 --   burst s meter          "A learn request by meter number uses that place's bits."
 use Prim.Native.Nat.{ℕ, zero, suc, _+_, _-_, _*_, _/_, _%_, _^_}
 use mathlib.Core.List.{List, [], _∷_, _++_}
 use mathlib.Core.Bool.{Bool, true, false, cond}
-use lib.ListN.{length, getD, take, drop}
+use lib.ListN.{length, getD, take, drop, replicate}
 use lib.Dec.{ltb, leb, eqb}
 use Rattle.bits.specs.Bits.{num, digits}
 use Rattle.records.specs.Block.{meters, twoBytes}
@@ -73,6 +74,9 @@ bitsFrom (suc k) s at = bitsAt s at ∷ bitsFrom k s (at + placeSize)
 
 abbrev pub bitsOf : List ℕ → List (List ℕ)
 bitsOf s = bitsFrom meters s 0
+
+abbrev pub fresh : List ℕ
+fresh = replicate storeSize 0
 
 abbrev pub burst : List ℕ → ℕ → List ℕ
 burst s meter = getD (bitsOf s) (meter - 1) []
