@@ -9,13 +9,13 @@ use Prim.Native.Nat.{ℕ, zero, suc, _+_, _-_, _*_, _/_, _%_, _^_, _≤_, _<_}
 use native.Mathlib.Omega.{arith}
 use native.Mathlib.Nat.{mul-le-mul, mul-le-mul-right, not-suc-le-zero}
 use native.Mathlib.Numerals.{add-one}
-use borrow.Author.Tests.{leb-true, leb-false, ltb-true, ltb-false}
+use borrow.Author.Tests.{leb-true, leb-false}
 use lib.Dec.{T, leb}
 use mir.Syntax.{w32, w64}
 use mir.Val.{SFits, toZ, ofZ}
 use mir.ValLaws.{toZ-ofZ}
 use lib.IntN.{ℤ, pos, negsuc, natAbs, _+ℤ_, _*ℤ_}
-use lib.Signed.{mag, leZ, ltZ}
+use lib.Signed.{mag}
 use Rattle.integers.specs.Numbers.{oddZ, halfZ, log2}
 use Rattle.integers.proofs.Log2.{log2-step, log2-below}
 use Rattle.integers.proofs.Sizes.{odd-lt, fits64}
@@ -23,7 +23,7 @@ use Rattle.integers.proofs.Parts.{natAbs-+}
 use Rattle.bits.specs.Bits.{bitOf}
 use Rattle.fractions.specs.Pairs.{limit}
 use Rattle.fractions.specs.Answers.{Decides}
-use Rattle.registers.specs.Sums.{tapsTo, overTo}
+use Rattle.registers.specs.Inner.{tapsTo, overTo}
 use Rattle.registers.specs.Registers.{cellCount, Valid, sumBelow, tapSum, sumOf, nextOf, iterOf, tap, cell}
 use Rattle.registers.specs.declared.Register.{Register}
 
@@ -82,7 +82,7 @@ cells-next a o (suc r) h l k =
     let p : o * 2 ^ r ≤ 1 * 2 ^ r = mul-le-mul-right (2 ^ r) (omega arith) in
     rw e (omega arith)
 
-half-size : (z : ℤ) → 2 * natAbs (halfZ z) ≤ natAbs z + 1
+pub half-size : (z : ℤ) → 2 * natAbs (halfZ z) ≤ natAbs z + 1
 half-size (pos n) = omega arith
 half-size (negsuc n) = omega arith
 
@@ -119,18 +119,14 @@ pub iter-more : (n : ℕ) (g : Register) → iterOf (n + 1) g ≡ nextOf (iterOf
 unfolding iterOf
 iter-more n g = rw (add-one n)
 
--- ---- the memory's range, as code tests it
-pub memory-low : (m : ℤ) → ltZ m (negsuc 1073741823) ≡ true → 2 ^ 30 < natAbs m
-memory-low (pos n) e = absurd (subst T (sym e) tt)
-memory-low (negsuc n) e = omega (arith, ltb-true 1073741823 n e)
-
-pub memory-tested : (m : ℤ) → ltZ m (negsuc 1073741823) ≡ false → Decides (natAbs m ≤ 2 ^ 30) (leZ m (pos 1073741824))
-memory-tested (pos n) l = go (leb n 1073741824) (leb-true n 1073741824) (leb-false n 1073741824)
+-- ---- what code tests
+-- to move down: fractions, beside Decides
+pub decides-le : (a b : ℕ) → Decides (a ≤ b) (leb a b)
+decides-le a b = go (leb a b) (leb-true a b) (leb-false a b)
   where
-    go : (b : Bool) → (b ≡ true → n ≤ 1073741824) → (b ≡ false → 1073741824 < n) → Decides (n ≤ 2 ^ 30) b
+    go : (t : Bool) → (t ≡ true → a ≤ b) → (t ≡ false → b < a) → Decides (a ≤ b) t
     go true f g = f refl
     go false f g = λ h. omega (arith, g refl)
-memory-tested (negsuc n) l = omega (arith, ltb-false 1073741823 n l)
 
 -- the last test decides, once the others have passed
 pub valid-tested : (g : Register) (b : Bool) → g .q % 2 ≡ 1 → g .q ≤ limit → g .cells < 2 ^ cellCount (g .q)

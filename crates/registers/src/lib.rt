@@ -18,6 +18,7 @@ use sums::overflow;
 use sums::power;
 use sums::tap_sum;
 
+mod digits; // digits.rt: the digits of an expansion, one by one
 mod signed; // signed.rt: the few operations on signed numbers
 mod sums; // sums.rt: the sums over the taps
 

@@ -1,7 +1,7 @@
 // The few operations on signed numbers. A register keeps its memory in 32 bits; sums are made in 64, so the widths meet here alone.
 ghost use mathlib.Core.Path.{_≡_};
 ghost use Prim.Native.Nat.{ℕ, _*_, _^_, _≤_, _<_};
-ghost use lib.IntN.{pos, natAbs, _+ℤ_, _-ℤ_, _*ℤ_};
+ghost use lib.IntN.{pos, natAbs, negℤ, _+ℤ_, _-ℤ_, _*ℤ_};
 ghost use Rattle.integers.specs.Numbers.{oddZ, halfZ};
 ghost use Rattle.fractions.specs.Answers.{Decides};
 
@@ -22,10 +22,7 @@ pub fn narrow(m: i64) -> i32
 pub fn memory_fits(m: i64) -> bool
     ensures { λ r. ⌜ Decides (natAbs m ≤ 2 ^ 30) r ⌝ }
 {
-    if m < -1073741824 {
-        return false;
-    }
-    m <= 1073741824
+    integers::magnitude(m) <= 1073741824
 }
 
 pub fn plus(m: i64, n: u32) -> i64
@@ -54,4 +51,12 @@ pub fn less(x: u64, s: u64, m: i64, w: u32) -> i64
     ensures { λ r. ⌜ r ≡ pos x -ℤ (pos s +ℤ m) *ℤ pos w ⌝ }
 {
     x as i64 - (s as i64 + m) * (w as i64)
+}
+
+// -(m + n)
+pub fn minus_sum(m: i64, n: u64) -> i64
+    requires { ⌜ (natAbs m ≤ 2 ^ 61) × (n < 2 ^ 40) ⌝ }
+    ensures { λ r. ⌜ r ≡ negℤ (m +ℤ pos n) ⌝ }
+{
+    -(m + (n as i64))
 }

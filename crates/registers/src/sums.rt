@@ -2,7 +2,7 @@
 ghost use mathlib.Core.Path.{_≡_};
 ghost use Prim.Native.Nat.{ℕ, _+_, _*_, _^_, _≤_, _<_};
 ghost use Rattle.registers.specs.Registers.{cellCount};
-ghost use Rattle.registers.specs.Sums.{tapsTo, overTo};
+ghost use Rattle.registers.specs.Inner.{tapsTo, overTo};
 
 // The number of cells r = floor(log2(q + 1)). Not an entry point: its callers in other crates show that q is inside the limits.
 pub fn cell_count(q: u32) -> u32

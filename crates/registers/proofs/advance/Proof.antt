@@ -11,7 +11,7 @@ use mir.Val.{SFits, toZ, ofZ}
 use mir.ValLaws.{toZ-ofZ}
 use Rattle.integers.specs.Numbers.{oddZ, halfZ}
 use Rattle.integers.proofs.Sizes.{odd-lt}
-use Rattle.registers.specs.Sums.{tapsTo}
+use Rattle.registers.specs.Inner.{tapsTo}
 use Rattle.registers.specs.Registers.{cellCount, sumOf}
 use Rattle.registers.proofs.Validity.{Facts, facts, sum-is, memory-next, back32}
 use Rattle.registers.proofs.advance.Statement.{statement}

@@ -9,7 +9,7 @@ use lib.IntN.{ℤ, pos, _+ℤ_, _-ℤ_, _*ℤ_}
 use mir.Syntax.{w64}
 use mir.Val.{toZ, ofZ}
 use mir.ValLaws.{toZ-ofZ}
-use Rattle.registers.specs.Sums.{overTo}
+use Rattle.registers.specs.Inner.{overTo}
 use Rattle.registers.specs.Registers.{cellCount, numOf}
 use Rattle.registers.proofs.Validity.{Facts, facts, back32}
 use Rattle.registers.proofs.Numerators.{numerator-over, over-le}

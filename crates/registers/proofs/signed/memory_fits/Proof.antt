@@ -1,22 +1,25 @@
--- `registers::signed::memory_fits` meets its contract: the two tests are the two ends of the range.
-use native.Mathlib.Omega.{arith}
+-- `registers::signed::memory_fits` meets its contract: one test of the size.
+use mathlib.Core.Path.{_≡_, ap, _∙_, subst}
+use Prim.Native.Nat.{ℕ, _^_, _≤_}
+use borrow.Author.Needs.{needs}
+use lib.Dec.{leb}
+use lib.IntN.{natAbs}
 use mir.Syntax.{w64}
 use mir.ValLaws.{toZ-ofZ}
-use Rattle.registers.proofs.Validity.{memory-low, memory-tested}
+use Rattle.fractions.specs.Answers.{Decides}
+use Rattle.registers.proofs.Validity.{decides-le}
 use Rattle.registers.proofs.signed.memory_fits.Statement.{statement}
 use Rattle.registers.proofs.signed.memory_fits.Tie as tie
+
+magnitude-requires : tie.Need-magnitude-requires
+magnitude-requires c κs = search needs
 
 returns : tie.Need-returns
 returns c =
     let s = c .before in
-    let back = toZ-ofZ w64 (s .args .m) (s .fits .m) in
-    λ h. omega (arith, h, memory-low (s .args .m) (rw back at (c .if1 .taken)))
-
-returns-2 : tie.Need-returns-2
-returns-2 c =
-    let s = c .before in
-    let back = toZ-ofZ w64 (s .args .m) (s .fits .m) in
-    rw back (memory-tested (s .args .m) (rw back at (c .if1 .left)))
+    let n = c .magnitude .result in
+    let e : n ≡ natAbs (s .args .m) = c .magnitude .ensures ∙ ap natAbs (toZ-ofZ w64 (s .args .m) (s .fits .m)) in
+    subst (λ (k : ℕ). Decides (k ≤ 2 ^ 30) (leb n 1073741824)) e (decides-le n 1073741824)
 
 pub memory-fits-spec : {M : Type 1} → statement M
-memory-fits-spec = tie.close (tie.spec returns returns-2)
+memory-fits-spec = tie.close (tie.spec magnitude-requires returns)

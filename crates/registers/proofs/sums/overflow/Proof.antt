@@ -5,7 +5,7 @@ use native.Mathlib.Omega.{arith}
 use native.Mathlib.Nat.{mul-le-mul}
 use lib.Pow.{shr-le}
 use Rattle.bits.specs.Bits.{bitOf}
-use Rattle.registers.specs.Sums.{overTo}
+use Rattle.registers.specs.Inner.{overTo}
 use Rattle.registers.proofs.Validity.{over-more}
 use Rattle.registers.proofs.sums.overflow.Statement.{statement}
 use Rattle.registers.proofs.sums.overflow.Tie as tie

@@ -3,7 +3,7 @@ use mathlib.Core.Path.{_≡_, sym, ap, _∙_}
 use Prim.Native.Nat.{ℕ, _+_, _-_, _*_, _/_, _%_, _^_, _≤_}
 use native.Mathlib.Omega.{arith}
 use Rattle.bits.specs.Bits.{bitOf}
-use Rattle.registers.specs.Sums.{tapsTo}
+use Rattle.registers.specs.Inner.{tapsTo}
 use Rattle.registers.proofs.Validity.{taps-more, bit-mul}
 use Rattle.registers.proofs.sums.tap_sum.Statement.{statement}
 use Rattle.registers.proofs.sums.tap_sum.Tie as tie
