@@ -1,5 +1,8 @@
--- The laws on registers: Validity has their ranges, Numerators the step law, States that state and numerator determine each other, Loading the rule for loading.
+-- The laws on registers: Validity has their ranges, Numerators the step law, States that state and numerator determine each other, Loading the rule for loading, Reading
+-- that of reading back, Sheets lengths in bits.
 pub mod Validity
 pub mod Numerators
 pub mod States
 pub mod Loading
+pub mod Sheets
+pub mod Reading

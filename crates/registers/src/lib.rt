@@ -1,14 +1,22 @@
 // The register: taps, step, load, read back, sheet. The contracts cite Registers and Answers of specs/.
 ghost use mathlib.Core.Path.{_≡_};
 ghost use Prim.Native.Nat.{ℕ, _+_, _-_, _*_, _/_, _%_, _^_, _≤_, _<_};
+ghost use lib.IntN.{natAbs};
+ghost use Rattle.integers.specs.Numbers.{Least};
 ghost use Rattle.fractions.specs.Answers.{Decides};
 ghost use Rattle.registers.specs.Registers.{Valid, nextOf, numOf};
 ghost use Rattle.registers.specs.Answers.{Steps, stepNumber, stepBit, stepRegister};
+ghost use Rattle.registers.specs.Answers.{Loads, loadNumber, loadRegister};
+ghost use Rattle.registers.specs.Answers.{ReadsBack, readNumber, readP, readQ};
+ghost use Rattle.registers.specs.Answers.{Sheets, sheetNumber, sheetCells, sheetBits};
+ghost use Rattle.registers.specs.Inner.{LoadsTo, StateOf, HasState};
+use digits::first_digits;
 use fractions::Fraction;
 use fractions::LIMIT;
 use signed::half_down;
 use signed::less;
 use signed::memory_fits;
+use signed::minus_sum;
 use signed::narrow;
 use signed::odd;
 use signed::plus;
@@ -53,6 +61,12 @@ pub enum ReadBack {
 pub enum StorageSheet {
     Needs(u32, u32),
     Invalid,
+}
+
+// Cells and a memory that may still be too wide for a register.
+struct State {
+    cells: u32,
+    memory: i64,
 }
 
 // Whether the register is valid.
@@ -113,4 +127,89 @@ pub fn numerator(g: Register) -> i64
     let r = cell_count(q);
     let product = (cells as u64) * (q as u64);
     less(product, overflow(q, cells, r), wide(g.memory), power(r))
+}
+
+// What the rule for loading gives for p/q. With p = cells q + rest 2^r and y = cells q - overflow 2^r, (y - p)/2^r is -(rest + overflow).
+fn state_of(p: i64, q: u32) -> State
+    requires { ⌜ (natAbs p ≤ 2 ^ 61) × (q % 2 ≡ 1) × (q < 2 ^ 30) ⌝ }
+    ensures { λ s. ⌜ LoadsTo p q (s .cells) (s .memory) ⌝ }
+{
+    let r = cell_count(q);
+    let d = first_digits(p, q, r);
+    let cells = d.bits;
+    State {
+        cells: cells,
+        memory: minus_sum(d.rest, overflow(q, cells, r)),
+    }
+}
+
+// The valid register of q whose numerator is p. Not an entry point: its callers in other crates show that there is one.
+pub fn register_of(p: i64, q: u32) -> Register
+    requires { ⌜ HasState p q ⌝ }
+    ensures { λ r. ⌜ StateOf p q r ⌝ }
+{
+    let s = state_of(p, q);
+    Register {
+        q: q,
+        cells: s.cells,
+        memory: narrow(s.memory),
+    }
+}
+
+// The register loaded from a pair, which need not be in lowest terms.
+pub fn load(p: i32, q: u32) -> Loaded
+    ensures { λ r. ⌜ Loads p q (loadNumber r) (loadRegister r) ⌝ }
+{
+    if fractions::is_inside(p, q) {
+        let s = state_of(wide(p), q);
+        if memory_fits(s.memory) {
+            Loaded::Into(Register {
+                q: q,
+                cells: s.cells,
+                memory: narrow(s.memory),
+            })
+        } else {
+            Loaded::Wide
+        }
+    } else {
+        Loaded::Outside
+    }
+}
+
+// The register's numerator over q, in lowest terms.
+pub fn read_back(g: Register) -> ReadBack
+    ensures { λ r. ⌜ ReadsBack g (readNumber r) (readP r) (readQ r) ⌝ }
+{
+    if is_valid(g) {
+        let t = fractions::lowest_terms(numerator(g), g.q as u64);
+        if integers::magnitude(t.p) <= LIMIT as u64 {
+            ReadBack::Pair(Fraction {
+                p: narrow(t.p),
+                q: t.q as u32,
+            })
+        } else {
+            ReadBack::Outside
+        }
+    } else {
+        ReadBack::Invalid
+    }
+}
+
+// The number of bits of n: 0 for 0.
+fn bit_length(n: u32) -> u32
+    ensures { λ r. ⌜ Least (λ k. n < 2 ^ k) r ⌝ }
+{
+    32 - u32::leading_zeros(n)
+}
+
+// The storage sheet: the cells, and the bits that the memory of a register without lead-in needs.
+pub fn sheet(g: Register) -> StorageSheet
+    ensures { λ r. ⌜ Sheets g (sheetNumber r) (sheetCells r) (sheetBits r) ⌝ }
+{
+    if is_valid(g) {
+        let q = g.q;
+        StorageSheet::Needs(cell_count(q), bit_length(u32::count_ones(q + 1) - 1))
+    } else {
+        StorageSheet::Invalid
+    }
 }

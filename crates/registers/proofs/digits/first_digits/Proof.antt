@@ -29,10 +29,12 @@ one-more-requires c κs =
     let v = c .before .loop .inv in
     let i = c .before .loop .i in
     let p = toZ w64 (ofZ w64 (a .p)) in
-    let e : p ≡ a .p = toZ-ofZ w64 (a .p) (c .before .before .fits .p) in
-    (subst (λ (z : ℤ). natAbs z ≤ 2 ^ 61) (sym (v .2)) (iter-size (a .q) i p (rw e (omega arith)) (omega arith)),
-    omega arith, omega arith,
-    subst (λ (x : ℕ). x < 2 ^ i) (sym (v .1)) (digits-lt (a .q) i p))
+    let e : p ≡ a .p = toZ-ofZ w64 (a .p) (c .before .before .fits .p) in (
+      subst (λ (z : ℤ). natAbs z ≤ 2 ^ 61) (sym (v .2)) (iter-size (a .q) i p (rw e (omega arith)) (omega arith)),
+      omega arith,
+      omega arith,
+      subst (λ (x : ℕ). x < 2 ^ i) (sym (v .1)) (digits-lt (a .q) i p),
+    )
 
 add-i : tie.Need-add-i Inv-loop μ-loop
 add-i c = omega arith
@@ -45,10 +47,11 @@ loop-again c =
     let l = c .before .before .loop in
     let a = c .before .before .before .args in
     let p = toZ w64 (ofZ w64 (a .p)) in
-    let v = l .inv in
-    (omega arith,
-    c .one-more .ensures .0 ∙ ap₂ (λ (x : ℕ) (z : ℤ). x + oddZ z * 2 ^ l .i) (v .1) (v .2) ∙ sym (digits-more (a .q) (l .i) p),
-    c .one-more .ensures .1 ∙ ap (nextNum (a .q)) (v .2) ∙ sym (numerators-more (a .q) (l .i) p))
+    let v = l .inv in (
+      omega arith,
+      c .one-more .ensures .0 ∙ ap₂ (λ (x : ℕ) (z : ℤ). x + oddZ z * 2 ^ l .i) (v .1) (v .2) ∙ sym (digits-more (a .q) (l .i) p),
+      c .one-more .ensures .1 ∙ ap (nextNum (a .q)) (v .2) ∙ sym (numerators-more (a .q) (l .i) p),
+    )
 
 returns : tie.Need-returns Inv-loop μ-loop
 returns c =

@@ -45,9 +45,10 @@ next-requires c κs = search needs
 returns : tie.Need-returns
 returns c =
     let w = c .before .before in
-    let a = w .before .before .before .args in
-    (ap₂ (λ (d p : ℕ). a .at .bits + d * p) (digit-is (w .before)) (w .power .ensures),
-    toZ-ofZ w64 _ (record { sfits = c .next .ok }) ∙ c .next .ensures ∙ ap (nextNum (a .q)) (back64 (a .at .rest) (omega arith)))
+    let a = w .before .before .before .args in (
+      ap₂ (λ (d p : ℕ). a .at .bits + d * p) (digit-is (w .before)) (w .power .ensures),
+      toZ-ofZ w64 _ (record { sfits = c .next .ok }) ∙ c .next .ensures ∙ ap (nextNum (a .q)) (back64 (a .at .rest) (omega arith)),
+    )
 
 pub one-more-spec : {M : Type 1} → statement M
 one-more-spec =

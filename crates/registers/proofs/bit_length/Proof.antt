@@ -1,0 +1,15 @@
+-- `registers::bit_length` meets its contract: all 32 bits but the zeros above the highest one.
+use Prim.Native.Nat.{ℕ, suc, _+_, _*_, _^_, _≤_, _<_}
+use native.Mathlib.Omega.{arith}
+use Rattle.registers.proofs.Sheets.{length-leading, leading-most}
+use Rattle.registers.proofs.bit_length.Statement.{statement}
+use Rattle.registers.proofs.bit_length.Tie as tie
+
+sub-result : tie.Need-sub-result
+sub-result c = leading-most (c .args .n) (omega arith)
+
+returns : tie.Need-returns
+returns c = length-leading (c .args .n) (omega arith)
+
+pub bit-length-spec : {M : Type 1} → statement M
+bit-length-spec = tie.close (tie.spec sub-result returns)
