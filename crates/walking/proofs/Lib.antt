@@ -1,0 +1,4 @@
+-- The laws on walks: LeadIn outside -q .. 0, Round inside, Walks of numerators and of states.
+pub mod LeadIn
+pub mod Round
+pub mod Walks
