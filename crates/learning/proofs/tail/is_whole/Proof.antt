@@ -1,0 +1,27 @@
+-- `learning::tail::is_whole` meets its contract: 1 << m is 2^m, which divides d where it divides |d|.
+use mathlib.Core.Path.{ap, _∙_}
+use native.Mathlib.Omega.{arith}
+use lib.IntN.{natAbs}
+use lib.Pow.{pow-pos}
+use mir.Syntax.{w64}
+use mir.ValLaws.{toZ-ofZ}
+use Rattle.integers.proofs.Modulo.{one-shifted}
+use Rattle.learning.proofs.Tails.{whole-of}
+use borrow.Author.Needs.{needs}
+use Rattle.learning.proofs.tail.is_whole.Statement.{statement}
+use Rattle.learning.proofs.tail.is_whole.Tie as tie
+
+abs-requires : tie.Need-abs-requires
+abs-requires c κs = search needs
+
+shl-result : tie.Need-shl-result
+shl-result c = search needs
+
+rem-result : tie.Need-rem-result
+rem-result c = rw (one-shifted (c .before .args .m) (omega arith)) (pow-pos (c .before .args .m))
+
+returns : tie.Need-returns
+returns c = whole-of (c .before .args .d) (c .before .args .m) _ _ (c .abs .ensures ∙ ap natAbs (toZ-ofZ w64 (c .before .args .d) (c .before .fits .d))) (one-shifted (c .before .args .m) (omega arith))
+
+pub is-whole-spec : {M : Type 1} → statement M
+is-whole-spec = tie.close (tie.spec abs-requires shl-result rem-result returns)
