@@ -69,22 +69,22 @@ pub fn by_order_of_two(start: Register) -> (u32, u32) {
     (lead, order_by_factors((q as u128 / common) as u32))
 }
 
-/// "Walk: 5, 6."
-pub fn walk(register: Register, allowance: u32) -> Walked {
+/// "Walk: 5, 6.", the lead-in and the period found by the method given.
+pub fn walk_by(method: fn(Register) -> (u32, u32), register: Register, allowance: u32) -> Walked {
     if !is_valid(register) {
         return Walked { refusal: 5, ..Walked::default() };
     }
-    let found = if allowance <= 300 {
-        by_states_seen(register, allowance)
-    } else if register.q <= 600 {
-        Some(by_two_walkers(register))
-    } else {
-        Some(by_order_of_two(register))
-    };
+    let found = if allowance <= 300 { by_states_seen(register, allowance) } else { Some(method(register)) };
     match found {
         Some((lead, period)) if lead as u64 + period as u64 <= allowance as u64 => Walked { refusal: 0, lead, period, sum: lead + period },
         _ => Walked { refusal: 6, ..Walked::default() },
     }
+}
+
+/// The same by the step rule alone, where that does not take long.
+pub fn walk(register: Register, allowance: u32) -> Walked {
+    let method = if register.q <= 1000 { by_two_walkers } else { by_order_of_two };
+    walk_by(method, register, allowance)
 }
 
 #[cfg(test)]

@@ -30,16 +30,16 @@ pub struct Subject {
 }
 
 pub const SUBJECTS: [Subject; 11] = [
-    Subject { name: "cj_learn", refusals: &[1, 2, 3], cases: 90_000, run: learn },
+    Subject { name: "cj_learn", refusals: &[1, 2, 3], cases: 120_000, run: learn },
     Subject { name: "cj_learn_meter", refusals: &[3, 10, 14], cases: 12_000, run: learn_meter },
-    Subject { name: "cj_read_back", refusals: &[5, 7], cases: 60_000, run: read_back },
-    Subject { name: "cj_load", refusals: &[4], cases: 60_000, run: load },
-    Subject { name: "cj_step", refusals: &[5], cases: 60_000, run: step },
-    Subject { name: "cj_walk", refusals: &[5, 6], cases: 40_000, run: walk },
-    Subject { name: "cj_sheet", refusals: &[5], cases: 40_000, run: sheet },
+    Subject { name: "cj_read_back", refusals: &[5, 7], cases: 150_000, run: read_back },
+    Subject { name: "cj_load", refusals: &[4], cases: 150_000, run: load },
+    Subject { name: "cj_step", refusals: &[5], cases: 150_000, run: step },
+    Subject { name: "cj_walk", refusals: &[5, 6], cases: 60_000, run: walk },
+    Subject { name: "cj_sheet", refusals: &[5], cases: 60_000, run: sheet },
     Subject { name: "cj_period", refusals: &[4], cases: 20_000, run: period },
-    Subject { name: "cj_output_word", refusals: &[4], cases: 60_000, run: output_word },
-    Subject { name: "cj_whiten", refusals: &[5, 9], cases: 20_000, run: whiten },
+    Subject { name: "cj_output_word", refusals: &[4], cases: 150_000, run: output_word },
+    Subject { name: "cj_whiten", refusals: &[5, 9], cases: 30_000, run: whiten },
     Subject { name: "cj_take", refusals: &[10, 11, 12, 13, 14, 15, 16, 17], cases: 30_000, run: take },
 ];
 
@@ -171,7 +171,12 @@ fn walk(library: &dyn Library, case: u64, random: &mut Random) -> Outcome {
         6 => needed.saturating_sub(random.below(70) as u32),
         _ => random.next() as u32,
     };
-    let expected = walking::walk(register, allowance);
+    // by the step rule alone, as far as there is time for it
+    let expected = if case % 100 == 0 && register.q <= 70_000 {
+        walking::walk_by(walking::by_two_walkers, register, allowance)
+    } else {
+        walking::walk(register, allowance)
+    };
     compare(expected.refusal, expected, library.walk(register, allowance), || format!("{register:?}, allowance {allowance}"))
 }
 
