@@ -4,3 +4,4 @@ pub mod Places
 pub mod Taking
 pub mod Appending
 pub mod Runs
+pub mod ByMeter

@@ -1,4 +1,4 @@
-// The store of bursts: 32 places, one for each meter, and taking a block into them. The contracts cite Places and Taking of specs/.
+// The store of bursts: 32 places, one for each meter, taking a block into them, and learning a meter's fraction. The contracts cite Places, Taking and ByMeter of specs/.
 ghost use mathlib.Core.Path.{_≡_};
 ghost use mathlib.Core.Bool.{true};
 ghost use Prim.Native.Nat.{ℕ, _+_, _-_, _*_, _<_, _≤_};
@@ -6,6 +6,7 @@ ghost use lib.ListN.{length};
 ghost use Rattle.records.specs.Block.{meters, parse};
 ghost use Rattle.store.specs.Places.{placeSize, mostBits, placeAt, countOf, isPlace, isStore, bitsOf, encodeAll};
 ghost use Rattle.store.specs.Taking.{roomOf, appendAll, takeOf, numberOf, placeOf};
+ghost use Rattle.store.specs.ByMeter.{LearnsMeter, meterNumber, meterP, meterQ};
 ghost use Rattle.store.specs.Appending.{PlaceFits, appended};
 
 // The bytes of a place, and where its count and its bits stand in it.
@@ -26,6 +27,14 @@ pub enum Answer {
     NotAStore,
     Malformed(records::Refusal),
     NoRoom(usize),
+}
+
+// The fraction of a meter's burst, or refusal 10, 14 or 3.
+pub enum ByMeter {
+    Answer(fractions::Fraction),
+    DamagedStore,
+    UnknownMeter,
+    NoneInside,
 }
 
 // Whether every record of a block has room, or where the first begins that has not.
@@ -181,5 +190,32 @@ pub fn take(store: &mut [u8], block: &[u8]) -> Answer
                 Answer::Taken
             }
         },
+    }
+}
+
+// The smallest fraction that fits the bits of a meter's place.
+pub fn learn_meter(store: &[u8], meter: u32) -> ByMeter
+    ensures { λ r. ⌜ LearnsMeter (now (store .entry)) meter (meterNumber r) (meterP r) (meterQ r) ⌝ }
+{
+    if !is_store(store) {
+        return ByMeter::DamagedStore;
+    }
+    let k = meter as usize;
+    if k == 0 {
+        return ByMeter::UnknownMeter;
+    }
+    if records::METERS < k {
+        return ByMeter::UnknownMeter;
+    }
+    let at = place_at(k);
+    let count = count_of(store, at);
+    let from = at + BITS_AT;
+    let to = at + PLACE_SIZE;
+    match learning::learn(&store[from..to], count as u64) {
+        learning::Learned::Answer(x) => ByMeter::Answer(x),
+        // a place that keeps the rules has at most 4,096 bits in 512 bytes: refusals 1 and 2 cannot come
+        learning::Learned::CountTooLarge => ByMeter::NoneInside,
+        learning::Learned::TooFewBytes => ByMeter::NoneInside,
+        learning::Learned::NoneInside => ByMeter::NoneInside,
     }
 }

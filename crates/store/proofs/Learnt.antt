@@ -1,0 +1,67 @@
+-- Learning by meter number: the place's bytes are its burst, so what learning answers for them it answers for the burst.
+--
+--   meter-answer, meter-none   an answer, or a refusal, for the bytes of a place is one for the meter
+--   meter-unique               two answers that meet the contract are the same
+--   meter-burst                the answer depends on the meter's burst alone
+use Prim.Native.Nat.{ℕ, _+_, _*_, _^_, _≤_, _<_}
+use mathlib.Core.Path.{_≡_, refl, sym, ap, ap₂, _∙_, subst, subst₂}
+use mathlib.Core.Bool.{Bool, true, false}
+use mathlib.Core.Logic.{_⊎_, inl, inr}
+use mathlib.Core.List.{List}
+use native.Mathlib.Omega.{arith}
+use lib.IntN.{ℤ, pos}
+use lib.ListN.{length}
+use Rattle.bits.specs.Bits.{num, value}
+use Rattle.fractions.specs.Pairs.{Smallest, NoneFits}
+use Rattle.fractions.proofs.Order.{smallest-unique}
+use Rattle.records.specs.Block.{meters}
+use Rattle.learning.specs.Learning as L
+use Rattle.learning.specs.Learning.{Learns}
+use Rattle.store.specs.Places.{isStore, burst}
+use Rattle.store.specs.ByMeter.{Asked, LearnsMeter, answer, damaged, unknown, none}
+use Rattle.store.proofs.Bursts.{Holds}
+
+module _ (s : List ℕ) (meter : ℕ) (bytes : List ℕ) (n : ℕ) (a : Asked s meter) (h : Holds bytes n (burst s meter)) where
+  pub meter-answer : {p : ℤ} {q : ℕ} → Learns bytes n 0 p q → LearnsMeter s meter 0 p q
+  meter-answer {p} {q} (L.answer e f) = answer a (subst₂ (λ (k A : ℕ). Smallest k A p q) (h .count-is) (h .value-is) f)
+
+  pub meter-none : Learns bytes n 3 (pos 0) 0 → LearnsMeter s meter 3 (pos 0) 0
+  meter-none (L.none e f) = none a (subst₂ NoneFits (h .count-is) (h .value-is) f)
+
+  -- refusals 1 and 2 do not come: a place has at most 4,096 bits, and the bytes for them
+  pub never-large : Learns bytes n 1 (pos 0) 0 → LearnsMeter s meter 3 (pos 0) 0
+  never-large (L.too-large l) = absurd (omega (arith, h .most))
+
+  pub never-few : Learns bytes n 2 (pos 0) 0 → LearnsMeter s meter 3 (pos 0) 0
+  never-few (L.too-few l k) = absurd (omega (arith, h .there))
+
+differ : (b : Bool) → b ≡ true → b ≡ false → ⊥
+differ b e d = let z : true ≡ false = sym e ∙ d in let y : _≡_ {A = ℕ} 0 1 = cc in omega arith
+
+outside : (s : List ℕ) (meter : ℕ) → Asked s meter → (meter ≡ 0) ⊎ (meters < meter) → ⊥
+outside s meter a (inl e) = omega (arith, a .low)
+outside s meter a (inr l) = omega (arith, a .high)
+
+pub meter-unique : (s : List ℕ) (meter m n : ℕ) (p p' : ℤ) (q q' : ℕ) → LearnsMeter s meter m p q → LearnsMeter s meter n p' q' → (m ≡ n) × ((p ≡ p') × (q ≡ q'))
+meter-unique s meter m n p p' q q' (answer a f) (answer b g) = (refl, smallest-unique _ _ p q p' q' f g)
+meter-unique s meter m n p p' q q' (answer a f) (damaged d) = absurd (differ (isStore s) (a .store) d)
+meter-unique s meter m n p p' q q' (answer a f) (unknown d e) = absurd (outside s meter a e)
+meter-unique s meter m n p p' q q' (answer a f) (none b g) = absurd (g p q (f .inside) (f .fits))
+meter-unique s meter m n p p' q q' (damaged d) (answer b g) = absurd (differ (isStore s) (b .store) d)
+meter-unique s meter m n p p' q q' (damaged d) (damaged e) = (refl, (refl, refl))
+meter-unique s meter m n p p' q q' (damaged d) (unknown e f) = absurd (differ (isStore s) e d)
+meter-unique s meter m n p p' q q' (damaged d) (none b g) = absurd (differ (isStore s) (b .store) d)
+meter-unique s meter m n p p' q q' (unknown d e) (answer b g) = absurd (outside s meter b e)
+meter-unique s meter m n p p' q q' (unknown d e) (damaged f) = absurd (differ (isStore s) d f)
+meter-unique s meter m n p p' q q' (unknown d e) (unknown f g) = (refl, (refl, refl))
+meter-unique s meter m n p p' q q' (unknown d e) (none b g) = absurd (outside s meter b e)
+meter-unique s meter m n p p' q q' (none a f) (answer b g) = absurd (f p' q' (g .inside) (g .fits))
+meter-unique s meter m n p p' q q' (none a f) (damaged d) = absurd (differ (isStore s) (a .store) d)
+meter-unique s meter m n p p' q q' (none a f) (unknown d e) = absurd (outside s meter a e)
+meter-unique s meter m n p p' q q' (none a f) (none b g) = (refl, (refl, refl))
+
+pub meter-burst : (s t : List ℕ) (meter n : ℕ) (p : ℤ) (q : ℕ) → isStore s ≡ true → isStore t ≡ true → burst s meter ≡ burst t meter → LearnsMeter s meter n p q → LearnsMeter t meter n p q
+meter-burst s t meter n p q hs ht e (answer a f) = answer (record { store = ht; low = a .low; high = a .high }) (subst (λ (b : List ℕ). Smallest (length b) (num 2 b) p q) e f)
+meter-burst s t meter n p q hs ht e (damaged d) = absurd (differ (isStore s) hs d)
+meter-burst s t meter n p q hs ht e (unknown d f) = unknown ht f
+meter-burst s t meter n p q hs ht e (none a f) = none (record { store = ht; low = a .low; high = a .high }) (subst (λ (b : List ℕ). NoneFits (length b) (num 2 b)) e f)
