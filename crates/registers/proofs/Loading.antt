@@ -1,11 +1,10 @@
--- Loading: the rule gives one register, its numerator is p, and it emits the expansion of p/q.
+-- Loading: the rule gives one register, and its numerator is p.
 --
 --   load-is         the register that the rule gives: its memory is -(p_r + overTo), p_r the numerator after r digits
 --   load-unique     .. and the only one
 --   load-numerator  its numerator is p
 --   load-state      a valid register is the one that its numerator loads
 --   load-valid      a loaded register whose memory fits is valid
---   load-emits      stepped n times, it emits the first n bits of p/q, for every n
 use mathlib.Core.Path.{_≡_, refl, sym, ap, ap₂, _∙_, subst}
 use Prim.Native.Nat.{ℕ, zero, suc, _+_, _-_, _*_, _/_, _%_, _^_, _≤_, _<_}
 use native.Mathlib.Omega.{arith}
@@ -20,11 +19,11 @@ use Rattle.fractions.specs.Pairs.{Inside}
 use Rattle.fractions.specs.Expansion.{nextNum, iterNum, digitsTo}
 use Rattle.fractions.proofs.Numerators.{digits-lt, expansion-splits, split-eq}
 use Rattle.registers.specs.Inner.{overTo, StateOf}
-use Rattle.registers.specs.Registers.{cellCount, Valid, Load, outTo, yTo, numOf}
+use Rattle.registers.specs.Registers.{cellCount, Valid, Load, yTo, numOf}
 use Rattle.registers.specs.declared.Register.{Register}
 use Rattle.registers.proofs.Validity.{half-size}
 use Rattle.registers.proofs.Numerators.{y-over}
-use Rattle.registers.proofs.States.{cells-digits, memory-unique, emits}
+use Rattle.registers.proofs.States.{cells-digits, memory-unique}
 
 -- ---- how large the numerators are on the way
 pub digit-le : (d q : ℕ) → d < 2 → d * q ≤ q
@@ -105,6 +104,3 @@ load-valid p q g i l m =
       cells = subst (λ (x : ℕ). g .cells < 2 ^ cellCount x) (sym (l .q-is)) (subst (λ (x : ℕ). x < 2 ^ cellCount q) (sym (l .cells)) (digits-lt q (cellCount q) p));
       memory = m;
     }
-
-pub load-emits : (n : ℕ) (p : ℤ) (q : ℕ) (g : Register) → Inside p q → Load p q g → natAbs (g .memory) ≤ 2 ^ 30 → outTo n g ≡ digitsTo q n p
-load-emits n p q g i l m = emits n g (load-valid p q g i l m) ∙ ap₂ (λ (x : ℕ) (z : ℤ). digitsTo x n z) (l .q-is) (load-numerator p q g l)
