@@ -130,3 +130,12 @@ pub fn whiten_by(register: Register, bytes: &mut [u8]) -> Whitened
         }
     }
 }
+
+// The same on the caller's register: a refusal, or 0.
+pub fn whiten(register: &mut Register, bytes: &mut [u8]) -> u32
+    ensures { λ r. ⌜ Whitens (now (register .entry)) (now (bytes .entry)) r (now (register .exit)) (now (bytes .exit)) ⌝ }
+{
+    let t = whiten_by(*register, bytes);
+    *register = t.register;
+    t.refusal
+}
