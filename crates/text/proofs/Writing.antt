@@ -1,0 +1,52 @@
+-- Text written piece by piece: a text and then another, right behind it, are the two in one.
+use mathlib.Core.Path.{_≡_, refl, sym, ap, _∙_}
+use mathlib.Core.List.{List, _++_, append-assoc, append-nil}
+use Prim.Native.Nat.{ℕ, _+_, _-_, _≤_}
+use native.Mathlib.Omega.{arith}
+use native.Mathlib.Nat.{add-assoc}
+use lib.ListN.{length, take, drop, length-append, length-drop, drop-of-length-le}
+use lib.Seq.{length-take-le, take-at, drop-at, drop-drop, take-length, take-all}
+use Rattle.text.specs.Text.{written, Wrote}
+
+pub length-written : (old : List ℕ) (at : ℕ) (text : List ℕ) → at + length text ≤ length old → length (written old at text) ≡ length old
+length-written old at text h =
+    simp (length-append, length-drop, length-take-le at old (omega arith)) (omega arith)
+
+-- up to the end of a text
+take-written : (old : List ℕ) (at : ℕ) (text : List ℕ) → at + length text ≤ length old → take (at + length text) (written old at text) ≡ take at old ++ text
+take-written old at text h =
+    ap (take (at + length text)) (sym (append-assoc (take at old) text (drop (at + length text) old)))
+    ∙ take-at (take at old ++ text) _ (at + length text) (length-append (take at old) text ∙ ap (λ (n : ℕ). n + length text) (length-take-le at old (omega arith)))
+
+drop-written : (old : List ℕ) (at : ℕ) (text : List ℕ) (k : ℕ) → at + length text ≤ length old → drop (at + length text + k) (written old at text) ≡ drop (at + length text + k) old
+drop-written old at text k h =
+    sym (drop-drop k (at + length text) (written old at text))
+    ∙ ap (drop k) (ap (drop (at + length text)) (sym (append-assoc (take at old) text (drop (at + length text) old)))
+    ∙ drop-at (take at old ++ text) _ (at + length text) (length-append (take at old) text ∙ ap (λ (n : ℕ). n + length text) (length-take-le at old (omega arith))))
+    ∙ drop-drop k (at + length text) old
+
+pub written-more : (old : List ℕ) (at : ℕ) (s t : List ℕ) → at + length s ≤ length old → written (written old at s) (at + length s) t ≡ written old at (s ++ t)
+written-more old at s t h =
+    rw (take-written old at s h, drop-written old at s (length t) h, append-assoc (take at old) s, append-assoc s t, length-append s t, add-assoc at) refl
+
+module _ {old : List ℕ} {at : ℕ} {s mid : List ℕ} {r : ℕ} (w : Wrote old at s mid r) where
+  pub wrote-length : at + length s ≤ length old → length mid ≡ length old
+  wrote-length h = ap length (w .new-is) ∙ length-written old at s h
+
+  pub wrote-then : {t new : List ℕ} {r' : ℕ} → at + length s ≤ length old → Wrote mid r t new r' → Wrote old at (s ++ t) new r'
+  wrote-then {t} {new} {r'} h v =
+      record {
+        new-is = v .new-is ∙ ap (λ (n : ℕ). written mid n t) (w .r-is) ∙ ap (λ (m : List ℕ). written m (at + length s) t) (w .new-is) ∙ written-more old at s t h;
+        r-is = v .r-is ∙ ap (λ (n : ℕ). n + length t) (w .r-is) ∙ add-assoc at (length s) (length t) ∙ ap (λ (n : ℕ). at + n) (sym (length-append s t));
+      }
+
+-- a copy into the part that begins at `at`
+pub copied : (old : List ℕ) (at : ℕ) (text new : List ℕ) → at + length text ≤ length old
+    → new ≡ take (length text) text ++ drop (length text) (take (length old - at) (drop at old))
+    → take at old ++ (new ++ drop (length old - at) (drop at old)) ≡ written old at text
+copied old at text new h e =
+    let l : length (drop at old) ≡ length old - at = length-drop at old in
+    rw (e, take-length text, take-all (length old - at) (drop at old) (omega arith), drop-drop (length text) at old, drop-of-length-le (drop at old) {i = length old - at} (omega arith), append-nil) refl
+
+pub wrote-unique : {old : List ℕ} {at : ℕ} {text new new' : List ℕ} {r r' : ℕ} → Wrote old at text new r → Wrote old at text new' r' → (new ≡ new') × (r ≡ r')
+wrote-unique w v = (w .new-is ∙ sym (v .new-is), w .r-is ∙ sym (v .r-is))

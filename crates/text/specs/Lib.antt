@@ -1,0 +1,2 @@
+-- The root of the specs: Text has the words on text as bytes.
+pub mod Text
