@@ -139,8 +139,8 @@ pub fn smallest_by_trying(bits: &[bool], limit: i64) -> Option<(i64, i64)> {
     best.map(|(_, _, q, _, p)| (p, q))
 }
 
-/// "Learn: 1, 2, 3."
-pub fn learn(bytes: &[u8], count: u64) -> Fraction {
+/// "Learn: 1, 2, 3.", the smallest pair found by the method given.
+pub fn learn_by(method: fn(&[bool]) -> Option<(i64, i64)>, bytes: &[u8], count: u64) -> Fraction {
     if count > MOST_BITS as u64 {
         return Fraction::refused(1);
     }
@@ -148,10 +148,14 @@ pub fn learn(bytes: &[u8], count: u64) -> Fraction {
     if bytes.len() < count.div_ceil(8) {
         return Fraction::refused(2);
     }
-    match smallest(&unpacked(bytes, count), LIMIT) {
+    match method(&unpacked(bytes, count)) {
         Some((p, q)) => Fraction::of(p, q),
         None => Fraction::refused(3),
     }
+}
+
+pub fn learn(bytes: &[u8], count: u64) -> Fraction {
+    learn_by(|bits| smallest(bits, LIMIT), bytes, count)
 }
 
 #[cfg(test)]

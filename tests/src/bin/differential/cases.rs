@@ -96,7 +96,12 @@ fn learn(library: &dyn Library, case: u64, random: &mut Random) -> Outcome {
         }
         _ => {}
     }
-    let expected = learning::learn(&bytes, count);
+    let expected = if count <= 7 {
+        // the value of n bits over 1 fits and is below 2^n, so no pair past that is smaller
+        learning::learn_by(|bits| learning::smallest_by_trying(bits, 1 << bits.len()), &bytes, count)
+    } else {
+        learning::learn(&bytes, count)
+    };
     let before = Bytes::new(&bytes, random.below(16));
     let mut lent = before.clone();
     let found = library.learn(&mut lent, count);
