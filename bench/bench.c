@@ -21,12 +21,12 @@
 #define FLAGS "unknown flags"
 #endif
 
-/* ---- the clock ---- */
+/* ---- the clock: processor time, so that other work on the machine counts less ---- */
 
 static double now(void)
 {
     struct timespec t;
-    clock_gettime(CLOCK_MONOTONIC, &t);
+    clock_gettime(CLOCK_PROCESS_CPUTIME_ID, &t);
     return (double)t.tv_sec + 1e-9 * (double)t.tv_nsec;
 }
 
@@ -325,7 +325,7 @@ static void print_machine(void)
 #else
     printf("FLINT:    not installed here (Debian's libflint-dev), so it is left out\n");
 #endif
-    printf("Time for one call, the best of five runs (of one, where a call takes longer than a second); beside it, how many times the library's.\n\n");
+    printf("Processor time for one call, the best of five runs (of one, where a call takes longer than a second); beside it, how many times the library's.\n\n");
 }
 
 int main(void)
