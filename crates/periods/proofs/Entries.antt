@@ -45,7 +45,7 @@ abbrev noneTo : ℕ → ℕ → Bool
 noneTo q zero = true
 noneTo q (suc n) = both (not (eqb (2 ^ suc n % q) (1 % q))) (noneTo q n)
 
-abbrev isOrder : ℕ → ℕ → Bool
+abbrev pub isOrder : ℕ → ℕ → Bool
 isOrder q zero = false
 isOrder q (suc n) = both (eqb (2 ^ suc n % q) (1 % q)) (noneTo q n)
 

@@ -63,6 +63,7 @@ order-multiple q T t r = (
     go (suc s) a e = let f : ⊥ = omega (arith, r .first (suc s) (record { some = omega arith; one = e })) in absurd f
 
 -- ---- two is coprime to an odd q, so that factors of two cancel
+-- to move down: integers
 two-coprime : (q : ℕ) → q % 2 ≡ 1 → Coprime q 2
 two-coprime q o zero h k = let f : ⊥ = omega (arith, mod-zero 2, k) in absurd f
 two-coprime q o (suc zero) h k = refl

@@ -6,6 +6,7 @@
 --   outside-once     what is outside never comes back
 --   enters-exists    so every walk comes inside
 --   enters-within    .. within b steps where |p| is below 2^b
+--   enters-zero, enters-suc   the first step inside, known by two numerators
 --   inside-iff       the distance is 0 exactly from -q to 0
 use mathlib.Core.Path.{_≡_, refl, sym, ap, ap₂, _∙_, subst}
 use mathlib.Core.Bool.{true, false}
@@ -23,7 +24,7 @@ use Rattle.integers.specs.Numbers.{Least}
 use Rattle.integers.proofs.Finite.{least, le-or-gt}
 use Rattle.integers.proofs.Parts.{up, down, natAbs-is, le-of, le-to, up-neg, down-neg}
 use Rattle.fractions.specs.Expansion.{nextNum, iterNum}
-use Rattle.fractions.proofs.Numerators.{EvenStep, OddStep, step-cases, one-part}
+use Rattle.fractions.proofs.Numerators.{EvenStep, OddStep, step-cases, one-part, iter-add}
 use Rattle.walking.specs.Inner.{dist, nearer, Enters}
 
 pub dist-parts : (q : ℕ) (p : ℤ) → dist q p ≡ up p + (down p - q)
@@ -149,6 +150,20 @@ enters-exists q p o = least (λ n. dist q (iterNum q n p) ≡ 0) (λ n. ℕ-disc
 
 pub enters-within : (q b : ℕ) (p : ℤ) (L : ℕ) → q % 2 ≡ 1 → natAbs p < 2 ^ b → Enters q p L → L ≤ b
 enters-within q b p L o h e = e .first b (inside-after q b p o h)
+
+-- the first step inside is known by two numerators: it is inside, and the one before it is not
+pub enters-zero : (q : ℕ) (p : ℤ) → dist q p ≡ 0 → Enters q p 0
+unfolding iterNum
+enters-zero q p h = record { holds = h; first = λ k _. omega arith }
+
+pub enters-suc : (q : ℕ) (p : ℤ) (L : ℕ) → q % 2 ≡ 1 → 0 < dist q (iterNum q L p) → dist q (iterNum q (suc L) p) ≡ 0 → Enters q p (suc L)
+enters-suc q p L o h i = record { holds = i; first = λ k j. elim (le-or-gt (suc L) k) [ inl l ↦ l | inr l ↦ absurd (sooner k j l) ] }
+  where
+    sooner : (k : ℕ) → dist q (iterNum q k p) ≡ 0 → k < suc L → ⊥
+    sooner k j l =
+        let n : k + (L - k) ≡ L = omega arith in
+        let e : iterNum q (L - k) (iterNum q k p) ≡ iterNum q L p = sym (iter-add q k (L - k) p) ∙ ap (λ n. iterNum q n p) n in
+        omega (arith, ap (dist q) (sym e) ∙ inside-stays q (iterNum q k p) (L - k) o j, h)
 
 -- ---- inside is from -q to 0
 pub inside-parts : (q : ℕ) (p : ℤ) → dist q p ≡ 0 → (up p ≡ 0) × (down p ≤ q)

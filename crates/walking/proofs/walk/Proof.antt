@@ -23,7 +23,7 @@ add-sum : tie.Need-add-sum
 add-sum c = record { fits = omega (arith, c .before .way-of .ensures .0, c .before .way-of .ensures .1) }
 
 returns : tie.Need-returns
-returns c = past _ _ (valid (c .before .before .before)) (c .before .before .way-of .ensures .2) (c .if2 .taken)
+returns c = past _ _ (valid (c .before .before .before)) (c .before .before .way-of .ensures .2) (omega arith)
 
 returns-2 : tie.Need-returns-2
 returns-2 c = walked (valid (c .before .before .before)) (c .before .before .way-of .ensures .2) refl (omega arith)
