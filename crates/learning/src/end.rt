@@ -2,41 +2,43 @@
 ghost use mathlib.Core.Path.{_≡_};
 ghost use Prim.Native.Nat.{ℕ, _^_, _≤_, _<_};
 ghost use lib.IntN.{pos, natAbs};
+ghost use Rattle.fractions.specs.Pairs.{limit};
 ghost use Rattle.reduction.specs.Vectors.{vect, Within};
 ghost use Rattle.learning.specs.Steps.{Held, Twofold, flip, Finished};
+
+const LIMIT: u64 = fractions::LIMIT as u64;
 
 pub fn held(g: reduction::Vector) -> bool
     requires { ⌜ Within (2 ^ 61) (vect g) ⌝ }
     ensures { λ r. ⌜ Held (g .p) (g .q) r ⌝ }
 {
-    reduction::signed::larger(reduction::signed::abs(g.p), reduction::signed::abs(g.q))
-        <= 1073741823
+    reduction::signed::larger(reduction::signed::abs(g.p), reduction::signed::abs(g.q)) <= LIMIT
 }
 
 // Does 2^n divide 2 a?
 fn twofold(n: usize, a: u64) -> bool
-    requires { ⌜ (n < 61) × (a ≤ 1073741823) ⌝ }
+    requires { ⌜ (n < 61) × (a ≤ limit) ⌝ }
     ensures { λ r. ⌜ Twofold n a r ⌝ }
 {
     2 * a % (1 << n) == 0
 }
 
 fn narrow(x: i64) -> i32
-    requires { ⌜ natAbs x ≤ 1073741823 ⌝ }
+    requires { ⌜ natAbs x ≤ limit ⌝ }
     ensures { λ r. ⌜ r ≡ x ⌝ }
 {
     x as i32
 }
 
 fn natural(x: u64) -> i32
-    requires { ⌜ x ≤ 1073741823 ⌝ }
+    requires { ⌜ x ≤ limit ⌝ }
     ensures { λ r. ⌜ r ≡ pos x ⌝ }
 {
     x as i32
 }
 
 fn short(x: u64) -> u32
-    requires { ⌜ x ≤ 1073741823 ⌝ }
+    requires { ⌜ x ≤ limit ⌝ }
     ensures { λ r. ⌜ r ≡ x ⌝ }
 {
     x as u32
@@ -44,7 +46,7 @@ fn short(x: u64) -> u32
 
 // p with the sign that makes q positive.
 fn flipped(p: i64, q: i64) -> i64
-    requires { ⌜ natAbs p ≤ 1073741823 ⌝ }
+    requires { ⌜ natAbs p ≤ limit ⌝ }
     ensures { λ r. ⌜ r ≡ flip p q ⌝ }
 {
     if q < 0 {
@@ -55,7 +57,7 @@ fn flipped(p: i64, q: i64) -> i64
 }
 
 pub fn fraction(p: i64, q: usize) -> fractions::Fraction
-    requires { ⌜ (natAbs p ≤ 1073741823) × (q ≤ 1073741823) ⌝ }
+    requires { ⌜ (natAbs p ≤ limit) × (q ≤ limit) ⌝ }
     ensures { λ r. ⌜ (r .p ≡ p) × (r .q ≡ q) ⌝ }
 {
     fractions::Fraction {
@@ -66,7 +68,7 @@ pub fn fraction(p: i64, q: usize) -> fractions::Fraction
 
 // The pair with q positive; where p and -p both fit, the written rule takes p not negative.
 pub fn finish(g: reduction::Vector, n: usize) -> fractions::Fraction
-    requires { ⌜ (n < 61) × (natAbs (g .p) ≤ 1073741823) × (natAbs (g .q) ≤ 1073741823) ⌝ }
+    requires { ⌜ (n < 61) × (natAbs (g .p) ≤ limit) × (natAbs (g .q) ≤ limit) ⌝ }
     ensures { λ r. ⌜ Finished n (g .p) (g .q) (r .p) (r .q) ⌝ }
 {
     let a = reduction::signed::abs(g.p);

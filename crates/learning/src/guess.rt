@@ -3,6 +3,7 @@ ghost use mathlib.Core.Path.{_≡_};
 ghost use Prim.Native.Nat.{ℕ, _^_, _≤_, _<_};
 ghost use lib.IntN.{pos};
 ghost use Rattle.bits.specs.Bits.{value};
+ghost use Rattle.fractions.specs.Pairs.{limit};
 ghost use Rattle.learning.specs.Steps.{side, Guess};
 
 // A remainder r and its cofactor t: t times the bits is r, or -r, modulo 2^61.
@@ -29,7 +30,7 @@ pub fn euclid(a: usize) -> Convergent
     let mut t0: usize = 0;
     let mut t1: usize = 1;
     let mut minus = false;
-    while 1073741823 < r1 {
+    while super::LIMIT < r1 {
         let r = r0 % r1;
         let t = t0 + r0 / r1 * t1;
         r0 = r1;
@@ -53,7 +54,7 @@ fn signed(x: usize) -> i64
 }
 
 pub fn side(r: usize, minus: bool) -> i64
-    requires { ⌜ r ≤ 1073741823 ⌝ }
+    requires { ⌜ r ≤ limit ⌝ }
     ensures { λ p. ⌜ p ≡ side minus r ⌝ }
 {
     if minus {

@@ -15,6 +15,8 @@ mod tail;
 const LONGEST: u64 = 4096;
 
 const DECIDED: usize = 61;
+// The largest q, and the largest |p|, inside the limits.
+const LIMIT: usize = fractions::LIMIT as usize;
 
 // The fraction, or refusal 1, 2 or 3.
 pub enum Learned {
@@ -47,7 +49,7 @@ fn by_guess(bytes: &[u8], n: usize) -> Learned
     if t % 2 == 0 {
         return Learned::NoneInside;
     }
-    if 1073741823 < t {
+    if LIMIT < t {
         return Learned::NoneInside;
     }
     let p = guess::side(e.r, e.minus);

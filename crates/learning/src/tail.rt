@@ -4,7 +4,7 @@ ghost use Prim.Native.Nat.{ℕ, _*_, _^_, _≤_, _<_, min};
 ghost use lib.IntN.{pos, natAbs, _-ℤ_};
 ghost use lib.Signed.{shrZ};
 ghost use Rattle.bits.specs.Bits.{value};
-ghost use Rattle.fractions.specs.Pairs.{Inside, Fits};
+ghost use Rattle.fractions.specs.Pairs.{limit, Inside, Fits};
 ghost use Rattle.fractions.specs.Answers.{Decides};
 ghost use Rattle.learning.specs.Steps.{Whole};
 
@@ -20,7 +20,7 @@ fn at_most_32(m: usize) -> usize
 }
 
 fn product(w: usize, q: usize) -> i64
-    requires { ⌜ (w < 2 ^ 32) × (q ≤ 1073741823) ⌝ }
+    requires { ⌜ (w < 2 ^ 32) × (q ≤ limit) ⌝ }
     ensures { λ r. ⌜ r ≡ pos (w * q) ⌝ }
 {
     (w * q) as i64
@@ -28,7 +28,7 @@ fn product(w: usize, q: usize) -> i64
 
 // rest - w q.
 fn offset(x: Rest, w: usize, q: usize) -> i64
-    requires { ⌜ (natAbs (x .rest) ≤ 1073741823) × (w < 2 ^ 32) × (q ≤ 1073741823) ⌝ }
+    requires { ⌜ (natAbs (x .rest) ≤ limit) × (w < 2 ^ 32) × (q ≤ limit) ⌝ }
     ensures { λ r. ⌜ r ≡ x .rest -ℤ pos (w * q) ⌝ }
 {
     reduction::signed::sub(x.rest, product(w, q))
