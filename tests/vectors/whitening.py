@@ -1,0 +1,81 @@
+#!/usr/bin/env python3
+"""What whitening_vectors must print, by the document's step rule alone: each byte is combined with the next eight emitted bits, the
+sum over the taps being made anew at every step."""
+
+LIMIT = 2**30 - 1
+
+
+def cell_count(q):
+    """floor(log2(q+1))"""
+    return (q + 1).bit_length() - 1
+
+
+def is_valid(q, cells, memory):
+    return q % 2 == 1 and 1 <= q <= LIMIT and cells < 2 ** cell_count(q) and -(2**30) <= memory <= 2**30
+
+
+def step(q, cells, memory):
+    """The emitted bit, and the cells and the memory after the step."""
+    r = cell_count(q)
+    taps = [(q + 1) >> k & 1 for k in range(r + 1)]
+    a = [cells >> i & 1 for i in range(r)]
+    s = memory + sum(taps[k] * a[r - k] for k in range(1, r + 1))
+    a.append(s % 2)
+    return a[0], sum(bit << i for i, bit in enumerate(a[1:])), s // 2
+
+
+def whiten(register, payload):
+    """The refusal, the register and the bytes after."""
+    if not is_valid(*register):
+        return 5, register, payload
+    if len(payload) > 512:
+        return 9, register, payload
+    q, cells, memory = register
+    out = []
+    for byte in payload:
+        for i in range(8):
+            bit, cells, memory = step(q, cells, memory)
+            byte ^= bit << i
+        out.append(byte)
+    return 0, (q, cells, memory), out
+
+
+def checksum(data):
+    total = 1
+    for byte in data:
+        total = (total * 31 + byte) % 65521
+    return total
+
+
+def one_pass(word, register, data, n):
+    refusal, after, data[:n] = whiten(register, data[:n])
+    print(word, n, refusal, *after, data[0], data[510], data[511], data[512], checksum(data))
+    return after
+
+
+def main():
+    registers = [
+        (37, 19, 0),
+        (1, 1, -1),
+        (1, 0, -1),
+        (3, 2, 2**30),
+        (LIMIT, LIMIT, -(2**30)),
+        (LIMIT, 0, 2**30),
+        (715827883, 123456789, -987654321),
+        (36, 19, 0),
+        (LIMIT + 2, 0, 0),
+        (0, 0, 0),
+        (37, 32, 0),
+        (37, 19, 2**30 + 1),
+        (37, 19, -(2**30) - 1),
+    ]
+    for register in registers:
+        for n in (0, 1, 3, 4, 6, 511, 512, 513):
+            data = [(7 * i + 3) % 256 for i in range(513)]
+            print("from", *register)
+            after = one_pass("once", register, data, n)
+            one_pass("again", register, data, n)
+            one_pass("onwards", after, data, n)
+
+
+main()
