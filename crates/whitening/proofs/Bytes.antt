@@ -4,21 +4,19 @@
 --   mixed g l i    the bytes l, of which i are done: those, and the others whitened from the register that i bytes have stepped
 --   Going          the invariant of both loops
 --   word-turn, byte-turn   a turn of each keeps it
-use mathlib.Core.Path.{_≡_, refl, sym, ap, ap₂, _∙_, subst}
-use mathlib.Core.List.{List, [], _∷_, _++_, append-assoc, append-nil}
+use mathlib.Core.Path.{_≡_, refl, sym, ap, _∙_, subst}
+use mathlib.Core.List.{List, _++_, append-assoc, append-nil}
 use Prim.Native.Nat.{ℕ, zero, suc, _+_, _-_, _*_, _/_, _%_, _^_, _≤_, _<_}
 use native.Mathlib.Omega.{arith}
 use native.Mathlib.Nat.{lt-suc-self, add-zero, add-suc, mul-le-mul-right, pow-suc}
 use native.Mathlib.Numerals.{add-one}
-use lib.Bits.{bitXor}
 use lib.Pow.{pow-add}
-use lib.IntN.{ℤ}
-use lib.ListN.{length, getD, set, take, drop, length-set, drop-of-length-le}
+use lib.ListN.{length, take, drop, length-set, drop-of-length-le}
 use lib.Seq.{drop-cons, drop-set-lt, take-suc-set, take-all}
 use Rattle.fractions.specs.Expansion.{iterNum, digitsTo}
 use Rattle.registers.specs.Registers.{Valid, emitted, nextOf, iterOf, outTo, numOf}
 use Rattle.registers.specs.declared.Register.{Register}
-use Rattle.registers.proofs.Validity.{facts, valid-iter, iter-q}
+use Rattle.registers.proofs.Validity.{valid-iter, iter-q}
 use Rattle.registers.proofs.States.{numerator-iter, emits, state-unique, numerator-small}
 use Rattle.whitening.specs.Whitening.{whiteOf}
 use Rattle.whitening.specs.Inner.{Offset, Inverse, Taken, Carries, mixAt, mixWord}

@@ -8,10 +8,10 @@
 --   whitens-none        no bytes: no steps
 use mathlib.Core.Path.{_≡_, refl, sym, ap, ap₂, _∙_, subst}
 use mathlib.Core.List.{List, [], _∷_, _++_}
-use Prim.Native.Nat.{ℕ, zero, suc, _+_, _-_, _*_, _/_, _%_, _^_, _≤_, _<_}
+use Prim.Native.Nat.{ℕ, zero, suc, _+_, _-_, _*_, _/_, _%_, _≤_, _<_}
 use native.Mathlib.Omega.{arith}
-use native.Mathlib.Nat.{div-add-mod', mul-suc, add-comm}
-use lib.Bits.{bitXor, differ, xor-step, xor-shr, xor-mod, xor-block, xor-lt}
+use native.Mathlib.Nat.{div-add-mod'}
+use lib.Bits.{bitXor, differ, xor-step, xor-shr, xor-mod, xor-block}
 use lib.IntN.{ℤ}
 use lib.ListN.{length, getD, length-append}
 use Rattle.bits.specs.Bits.{num, Below}
@@ -21,7 +21,6 @@ use Rattle.registers.specs.declared.Register.{Register}
 use Rattle.registers.proofs.Validity.{valid-iter, iter-q}
 use Rattle.registers.proofs.States.{numerator-iter, emits}
 use Rattle.whitening.specs.Whitening.{whiteOf, most, Whitens, whitened, invalid, long}
-use Rattle.whitening.specs.declared.Whitened.{Whitened}
 use Rattle.whitening.proofs.Bytes.{iter-add, out-add, out-lt}
 
 -- ---- one answer

@@ -3,13 +3,13 @@
 --
 --   offset-is   an offset, in parts
 --   word-law    the next k digits and the numerator after them, once over k: 32, 8 and r are instances
-use mathlib.Core.Path.{_≡_, refl, sym, ap, _∙_, subst}
+use mathlib.Core.Path.{_≡_, sym, ap, _∙_}
 use mathlib.Core.Logic.{_⊎_, inl, inr}
-use Prim.Native.Nat.{ℕ, zero, suc, _+_, _-_, _*_, _/_, _%_, _^_, _≤_, _<_, min}
+use Prim.Native.Nat.{ℕ, _+_, _-_, _*_, _/_, _%_, _^_, _≤_, _<_}
 use native.Mathlib.Omega.{arith}
 use native.Mathlib.Nat.{div-add-mod', mul-le-mul-right, mul-le-mul-left, mul-comm, mul-div-cancel, div-le-of-le-mul, eq-of-mul-eq-mul-right}
 use lib.Pow.{pow-pos, pow-add, pow-mono}
-use lib.IntN.{ℤ, pos, negsuc, natAbs, _+ℤ_, _-ℤ_}
+use lib.IntN.{ℤ, pos, natAbs, _+ℤ_, _-ℤ_}
 use Rattle.integers.proofs.Parts.{up, down, eq-of, parts-+, parts--, parts, natAbs-is}
 use Rattle.integers.proofs.Finite.{le-or-gt}
 use Rattle.integers.proofs.Modulo.{key-of, cong-of, mod-down, mul-mod-r}

@@ -1,8 +1,7 @@
 -- `whitening::next_digits` meets its contract: the products fit 64 bits, and the word law.
-use mathlib.Core.Path.{_≡_, sym, ap, _∙_, subst}
-use Prim.Native.Nat.{ℕ, _+_, _-_, _*_, _/_, _%_, _^_, _≤_, _<_}
+use Prim.Native.Nat.{ℕ, _-_, _*_, _%_, _^_, _≤_, _<_}
 use native.Mathlib.Omega.{arith}
-use native.Mathlib.Nat.{mul-le-mul, mod-lt, div-le-self}
+use native.Mathlib.Nat.{mul-le-mul, mod-lt}
 use borrow.Author.Needs.{needs}
 use Rattle.whitening.proofs.Words.{small-part, half-at-most, width-le, word-law}
 use Rattle.whitening.proofs.next_digits.Statement.{statement}

@@ -1,6 +1,4 @@
 -- `whitening::numerator_of` meets its contract: below 2^63, so the difference fits 64 bits.
-use mathlib.Core.Path.{_≡_}
-use Prim.Native.Nat.{ℕ, _+_, _^_, _<_}
 use native.Mathlib.Omega.{arith}
 use borrow.Author.Needs.{needs}
 use lib.IntN.{pos, _-ℤ_}
@@ -8,7 +6,6 @@ use mir.Syntax.{w64}
 use mir.Val.{SFits}
 use mir.ValLaws.{toZ-ofZ, toZ-pos}
 use Rattle.integers.proofs.Sizes.{fits64}
-use Rattle.whitening.specs.Inner.{Offset}
 use Rattle.whitening.proofs.Words.{lowered, lowered-small}
 use Rattle.whitening.proofs.numerator_of.Statement.{statement}
 use Rattle.whitening.proofs.numerator_of.Tie as tie

@@ -1,5 +1,5 @@
 -- `whitening::whiten_by` meets its contract: validity is tested before the length, and each of the three answers is one case of it.
-use mathlib.Core.Path.{_≡_, sym, ap, _∙_, subst}
+use mathlib.Core.Path.{sym, subst}
 use mathlib.Core.List.{List}
 use borrow.Author.Needs.{needs}
 use Prim.Native.Nat.{ℕ}

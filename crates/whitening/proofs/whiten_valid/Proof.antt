@@ -1,16 +1,14 @@
 -- `whitening::whiten_valid` meets its contract: both loops keep the bytes done and the slow rule on the others, and the numerator at the end tells the register.
-use mathlib.Core.Path.{_≡_, refl, sym, ap, _∙_, subst}
-use mathlib.Core.List.{List}
-use Prim.Native.Nat.{ℕ, _+_, _-_, _*_, _%_, _^_, _≤_, _<_}
+use mathlib.Core.Path.{_≡_, refl, ap, _∙_, subst}
+use Prim.Native.Nat.{ℕ, _-_, _*_}
 use native.Mathlib.Omega.{arith}
 use borrow.Author.Needs.{needs}
-use lib.IntN.{ℤ, natAbs}
 use lib.ListN.{length}
 use mir.Syntax.{w64}
 use mir.Val.{toZ, ofZ}
 use mir.ValLaws.{toZ-ofZ}
 use Rattle.registers.specs.Registers.{numOf, iterOf}
-use Rattle.registers.proofs.Validity.{facts, valid-iter, iter-q}
+use Rattle.registers.proofs.Validity.{facts}
 use Rattle.registers.proofs.States.{numerator-small}
 use Rattle.whitening.specs.Inner.{Offset}
 use Rattle.whitening.proofs.Words.{inverse-of}

@@ -1,7 +1,6 @@
 -- `whitening_vectors::checksum` is safe and ends: the bytes left fall.
 use mathlib.Core.Path.{_≡_}
-use Prim.Native.Nat.{_-_, _≤_}
-use native.Mathlib.Omega.{arith}
+use Prim.Native.Nat.{_-_}
 use borrow.Author.Needs.{needs}
 use lib.ListN.{length}
 use Rattle.whitening_vectors.proofs.checksum.Statement.{statement}
