@@ -2,7 +2,6 @@
 use mathlib.Core.Path.{_≡_, refl, ap}
 use Prim.Native.Nat.{ℕ}
 use Rattle.integers.proofs.Finite.{least-unique}
-use Rattle.periods.specs.Orders.{Order}
 use Rattle.periods.specs.Answers.{Periods, entry, outside, numberOf, periodOf}
 use Rattle.periods.specs.declared.Lookup.{Lookup}
 use Rattle.periods.specs.declared.Lookup.the-variants.{Period, Outside}

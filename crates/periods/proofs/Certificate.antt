@@ -8,7 +8,7 @@ use native.Mathlib.Nat.{mod-zero, mod-self, mod-eq-of-lt, mul-comm, mul-assoc, m
 use Rattle.integers.specs.Numbers.{Least, Coprime}
 use Rattle.integers.proofs.Finite.{least, le-or-gt}
 use Rattle.integers.proofs.Coprime.{quot, div-mul, euclid}
-use Rattle.periods.specs.Orders.{UnitPower, Order}
+use Rattle.periods.specs.Orders.{Order}
 use Rattle.periods.specs.Finding.{Stuck, Lowered}
 use Rattle.periods.proofs.Orders.{order-exists, order-multiple}
 

@@ -10,7 +10,7 @@ use lib.Dec.{T, eqb, eqb→eq}
 use lib.ListN.{length, getD}
 use borrow.Author.Tests.{eq-eqb}
 use Rattle.periods.specs.Orders.{UnitPower, Order}
-use Rattle.periods.specs.Answers.{InTable, Periods, entry}
+use Rattle.periods.specs.Answers.{Periods, entry}
 
 abbrev pub both : Bool → Bool → Bool
 both true b = b

@@ -1,9 +1,9 @@
 -- The order of two modulo an odd q: there is one, it is at most q - 1 (1 for q = 1), and it divides each exponent t with 2^t = 1.
-use mathlib.Core.Path.{_≡_, refl, sym, ap, _∙_, subst}
+use mathlib.Core.Path.{_≡_, refl, sym, ap, _∙_}
 use mathlib.Core.Logic.{inl, inr, _↔_}
 use Prim.Native.Nat.{ℕ, zero, suc, _+_, _-_, _*_, _/_, _%_, _^_, _≤_, _<_, max}
 use native.Mathlib.Omega.{arith}
-use native.Mathlib.Nat.{mod-zero, mod-one, mod-eq-of-lt, mod-lt, zero-mod, one-mul, mul-one, mul-comm, mul-zero, mul-suc, mul-mod-right, div-add-mod, le-trans}
+use native.Mathlib.Nat.{mod-zero, mod-one, mod-eq-of-lt, mod-lt, zero-mod, one-mul, mul-one, mul-zero, mul-suc, mul-mod-right, div-add-mod, le-trans}
 use native.Mathlib.Decide.{ℕ-discrete, map-dec}
 use lib.Pow.{pow-add, pow-pos}
 use Rattle.integers.specs.Numbers.{Least, Coprime}

@@ -2,7 +2,7 @@
 use mathlib.Core.Path.{_≡_, refl, sym, ap, _∙_}
 use Prim.Native.Nat.{ℕ, zero, suc, _+_, _-_, _*_, _/_, _%_, _^_, _≤_, _<_}
 use native.Mathlib.Omega.{arith}
-use native.Mathlib.Nat.{le-div-iff-mul-le, mul-le-mul, div-mul-le-self, div-le-self, div-lt-self, le-trans, mul-le-mul-left, div-lt-iff-lt-mul}
+use native.Mathlib.Nat.{le-div-iff-mul-le, div-mul-le-self, div-lt-self, le-trans, mul-le-mul-left, div-lt-iff-lt-mul}
 use lib.Pow.{pow-add, pow-pos, shr-shr}
 use Rattle.integers.proofs.Modulo.{mul-mod-l}
 

@@ -13,6 +13,7 @@ pub enum Lookup {
     Outside,
 }
 
+// The table's entry for q: the least T >= 1 with 2^T - 1 divisible by q.
 pub fn period(q: u32) -> Lookup
     ensures { λ r. ⌜ Periods q (numberOf r) (periodOf r) ⌝ }
 {

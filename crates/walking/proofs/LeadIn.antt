@@ -20,11 +20,10 @@ use lib.IntN.{ℤ, pos, negsuc, negℤ, natAbs}
 use lib.Dec.{T}
 use borrow.Author.Tests.{ltb-false}
 use lib.Signed.{_≤ℤ_, ltZ}
-use Rattle.integers.specs.Numbers.{Least}
 use Rattle.integers.proofs.Finite.{least, le-or-gt}
 use Rattle.integers.proofs.Parts.{up, down, natAbs-is, le-of, le-to, up-neg, down-neg}
 use Rattle.fractions.specs.Expansion.{nextNum, iterNum}
-use Rattle.fractions.proofs.Numerators.{EvenStep, OddStep, step-cases, one-part, iter-add}
+use Rattle.fractions.proofs.Numerators.{step-cases, one-part, iter-add}
 use Rattle.walking.specs.Inner.{dist, nearer, Enters}
 
 pub dist-parts : (q : ℕ) (p : ℤ) → dist q p ≡ up p + (down p - q)

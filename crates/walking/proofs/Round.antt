@@ -9,24 +9,22 @@ use mathlib.Core.Path.{_≡_, refl, sym, ap, _∙_, subst}
 use mathlib.Core.Logic.{_⊎_, inl, inr, _↔_}
 use Prim.Native.Nat.{ℕ, zero, suc, _+_, _-_, _*_, _/_, _%_, _^_, _≤_, _<_}
 use native.Mathlib.Omega.{arith}
-use native.Mathlib.Nat.{zero-mod, mod-eq-of-lt, mul-mod-right, mul-comm, mul-assoc, eq-of-mul-eq-mul-left}
-use native.Mathlib.Decide.{ℕ-discrete}
+use native.Mathlib.Nat.{zero-mod, mod-eq-of-lt, mul-mod-right, mul-comm, eq-of-mul-eq-mul-left}
 use lib.Pow.{pow-pos}
-use lib.IntN.{ℤ, pos, negsuc, negℤ, natAbs, _+ℤ_, _-ℤ_, _*ℤ_}
+use lib.IntN.{ℤ, pos, natAbs, _+ℤ_, _-ℤ_, _*ℤ_}
 use Rattle.integers.proofs.Finite.{le-or-gt}
 use Rattle.integers.proofs.Parts.{up, down, eq-of, natAbs-is, natAbs-*, pos-*}
 use Rattle.integers.specs.Numbers.{Coprime}
 use Rattle.integers.proofs.Coprime.{quot, euclid, lowest}
 use Rattle.integers.proofs.Modulo.{cong-of}
-use Rattle.integers.proofs.Order.{eq-by, z-+, z-*, z-sub}
-use Rattle.integers.proofs.Ring.{lit, neg, _⊕_, _⊗_, _⊖_, ring3, ring6, _≔_}
+use Rattle.integers.proofs.Order.{eq-by, z-*, z-sub}
+use Rattle.integers.proofs.Ring.{_⊕_, _⊗_, _⊖_, ring3, ring6, _≔_}
 use Rattle.fractions.specs.Pairs.{Lowest}
 use Rattle.fractions.specs.Expansion.{nextNum, iterNum, digitsTo}
-use Rattle.fractions.proofs.Numerators.{EvenStep, OddStep, step-cases, one-part, iter-add, expansion-splits, split-eq}
+use Rattle.fractions.proofs.Numerators.{step-cases, one-part, iter-add, expansion-splits, split-eq}
 use Rattle.fractions.proofs.Lowest.{part, Multiple, multiple, odd-left}
-use Rattle.periods.specs.Orders.{Order}
 use Rattle.periods.proofs.Orders.{power-one-iff, two-cancel}
-use Rattle.walking.specs.Inner.{dist, Enters}
+use Rattle.walking.specs.Inner.{dist}
 use Rattle.walking.proofs.LeadIn.{inside-parts, inside-stays}
 
 -- ---- 0 and -q stand still

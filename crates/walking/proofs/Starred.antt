@@ -5,12 +5,12 @@
 --   starred-walks       each pair loads into its register, which has that lead-in and period
 --   starred-allowance   so L+T is an allowance that answers, and one less refuses: "Allowance 36 answers, 35 refuses."
 use mathlib.Core.Path.{_≡_, refl}
-use Prim.Native.Nat.{ℕ, zero, suc, _+_, _-_, _%_, _≤_, _<_}
+use Prim.Native.Nat.{ℕ, zero, suc, _+_, _-_, _%_, _<_}
 use native.Mathlib.Omega.{arith}
 use native.Mathlib.Nat.{mod-zero, mod-eq-of-lt}
-use lib.IntN.{ℤ, pos, negsuc, natAbs}
+use lib.IntN.{ℤ, pos, negsuc}
 use Rattle.integers.specs.Numbers.{log2, logIn}
-use Rattle.fractions.specs.Pairs.{Inside, Lowest}
+use Rattle.fractions.specs.Pairs.{Inside}
 use Rattle.fractions.specs.Expansion.{nextNum, iterNum, digitsTo}
 use Rattle.registers.specs.Registers.{Valid, sumBelow, yTo}
 use Rattle.registers.specs.Answers.{Loads, loaded}

@@ -11,13 +11,12 @@
 --   lead-in-none     so its lead-in is 0 exactly there
 --   walk-unique      an answer of the walk is one
 use mathlib.Core.Path.{_≡_, refl, sym, ap, _∙_, subst}
-use mathlib.Core.Logic.{inl, inr, _↔_}
-use Prim.Native.Nat.{ℕ, zero, suc, _+_, _-_, _%_, _^_, _≤_, _<_, max}
+use mathlib.Core.Logic.{_↔_}
+use Prim.Native.Nat.{ℕ, _+_, _-_, _%_, _^_, _≤_, _<_, max}
 use native.Mathlib.Omega.{arith}
 use native.Mathlib.Nat.{zero-add, le-antisymm}
 use lib.IntN.{ℤ, pos, negℤ, natAbs}
 use lib.Signed.{_≤ℤ_}
-use Rattle.integers.proofs.Finite.{least-unique}
 use Rattle.fractions.specs.Pairs.{LowestTerms, Lowest}
 use Rattle.fractions.specs.Expansion.{iterNum}
 use Rattle.fractions.proofs.Numerators.{iter-add}

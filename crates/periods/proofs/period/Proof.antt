@@ -1,10 +1,10 @@
 -- `periods::period` meets its contract: the least-exponent rule is computed once over all entries of the source's own constant, and carried to the entry read.
-use Prim.Native.Nat.{ℕ, _/_, _%_, _≤_, _<_}
+use Prim.Native.Nat.{ℕ}
 use native.Mathlib.Omega.{arith}
-use mathlib.Core.Path.{_≡_, refl}
+use mathlib.Core.Path.{refl}
 use mathlib.Core.List.{List}
 use borrow.Author.Needs.{needs}
-use Rattle.periods.specs.Answers.{InTable, entry, outside}
+use Rattle.periods.specs.Answers.{outside}
 use Rattle.periods.proofs.Entries.{entry-period}
 use Rattle.periods.proofs.period.Statement.{statement}
 use Rattle.periods.proofs.period.Tie as tie

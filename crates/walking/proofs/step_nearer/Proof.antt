@@ -1,6 +1,6 @@
 -- `walking::step_nearer` meets its contract: by the parity of d.
-use mathlib.Core.Path.{_≡_, sym, _∙_}
-use Prim.Native.Nat.{ℕ, _-_, _/_, _%_, _<_}
+use mathlib.Core.Path.{sym}
+use Prim.Native.Nat.{_-_}
 use native.Mathlib.Omega.{arith}
 use Rattle.walking.proofs.LeadIn.{nearer-even, nearer-odd}
 use Rattle.walking.proofs.step_nearer.Statement.{statement}

@@ -1,5 +1,5 @@
 -- `walking::way_of` meets its contract: the first step inside, and the order of two modulo the denominator in lowest terms.
-use mathlib.Core.Path.{_≡_, sym, ap, _∙_, subst}
+use mathlib.Core.Path.{_≡_, sym, _∙_, subst}
 use Prim.Native.Nat.{ℕ, _-_, _^_, _≤_, _<_, max}
 use native.Mathlib.Omega.{arith}
 use lib.IntN.{ℤ, natAbs}
@@ -8,7 +8,7 @@ use mir.Val.{toZ, ofZ}
 use mir.ValLaws.{toZ-ofZ}
 use borrow.Author.Needs.{needs}
 use Rattle.fractions.specs.Inner.{Reduced}
-use Rattle.registers.specs.Registers.{Valid, numOf}
+use Rattle.registers.specs.Registers.{numOf}
 use Rattle.registers.proofs.States.{numerator-small}
 use Rattle.periods.proofs.Orders.{order-most}
 use Rattle.walking.specs.Inner.{Enters}

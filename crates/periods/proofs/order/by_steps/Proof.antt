@@ -1,6 +1,5 @@
 -- `periods::order::by_steps` meets its contract: x is 2^t, no power before it is 1, and one of the first c powers is.
-use mathlib.Core.Path.{_≡_, refl, sym, ap, _∙_}
-use Prim.Native.Nat.{ℕ, _+_, _-_, _*_, _%_, _^_, _≤_, _<_}
+use Prim.Native.Nat.{_-_, _<_}
 use native.Mathlib.Omega.{arith}
 use native.Mathlib.Nat.{mod-lt}
 use Rattle.periods.proofs.Orders.{Stepping, stepping-start, stepping-more, stepping-most, stepping-end}

@@ -1,6 +1,5 @@
 -- `periods::order::from_multiple` meets its contract: each prime is stuck, or still goes into m, which trial division brings down to 1 or a prime.
-use mathlib.Core.Path.{_≡_, refl, sym, ap, _∙_}
-use Prim.Native.Nat.{ℕ, _+_, _-_, _*_, _/_, _%_, _^_, _≤_, _<_}
+use Prim.Native.Nat.{_-_, _≤_}
 use native.Mathlib.Omega.{arith}
 use native.Mathlib.Nat.{le-trans, div-le-self}
 use Rattle.periods.proofs.Powers.{root, shrinks}

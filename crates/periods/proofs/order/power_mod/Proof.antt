@@ -1,5 +1,5 @@
 -- `periods::order::power_mod` meets its contract: r is 2 to the digits of e read so far, and each turn squares it and takes one digit more.
-use mathlib.Core.Path.{_≡_, refl, sym, ap, _∙_, subst}
+use mathlib.Core.Path.{_≡_, sym, ap, _∙_}
 use Prim.Native.Nat.{ℕ, _+_, _-_, _*_, _/_, _%_, _^_, _≤_, _<_}
 use native.Mathlib.Omega.{arith}
 use native.Mathlib.Nat.{mod-lt, mul-le-mul, div-eq-of-lt, div-one}

@@ -1,6 +1,5 @@
 -- `periods::order::totient` is safe and ends: n and m only fall, and l rises past the root of m. What it answers is a guess.
-use mathlib.Core.Path.{_≡_, refl, sym, ap, _∙_}
-use Prim.Native.Nat.{ℕ, _+_, _-_, _*_, _/_, _%_, _^_, _≤_, _<_}
+use Prim.Native.Nat.{_-_, _≤_}
 use native.Mathlib.Omega.{arith}
 use native.Mathlib.Nat.{div-le-self}
 use Rattle.periods.proofs.Powers.{root, shrinks, tot-le}

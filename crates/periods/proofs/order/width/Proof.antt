@@ -1,5 +1,5 @@
 -- `periods::order::width` meets its contract: e >> i is 0 exactly where e fits i bits, and a u32 fits 32.
-use Prim.Native.Nat.{ℕ, _+_, _-_, _^_, _≤_, _<_}
+use Prim.Native.Nat.{_-_, _≤_}
 use native.Mathlib.Omega.{arith}
 use Rattle.periods.proofs.Powers.{shift-out}
 use Rattle.periods.proofs.order.width.Statement.{statement}
