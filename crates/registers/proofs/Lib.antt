@@ -1,5 +1,5 @@
 -- The laws on registers: Validity has their ranges, Numerators the step law, States that state and numerator determine each other, Loading the rule for loading, Reading
--- that of reading back, Sheets lengths in bits, Answers that each answer is unique, Starred the starred values.
+-- that of reading back, Sheets lengths in bits, Answers that each answer is unique.
 pub mod Validity
 pub mod Numerators
 pub mod States
@@ -7,4 +7,3 @@ pub mod Loading
 pub mod Sheets
 pub mod Reading
 pub mod Answers
-pub mod Starred

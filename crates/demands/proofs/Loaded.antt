@@ -1,9 +1,4 @@
--- The starred values of loading and reading back, as one table under one statement: one computed test over all rows.
---
---   row p q a m p' q'  the pair p/q loads the cells a and the memory m, and they read back p'/q'
---   Holds              what the document says of a row, in the contracts' words
---   rows               the "Bench values" of loading that are starred
---   starred            every row holds
+-- A pair, the register it loads and the pair that reads back, tested: computed from the definitions alone. `loads-sound` says what a passed test means.
 use mathlib.Core.Path.{_≡_, refl, sym, ap, _∙_, subst}
 use mathlib.Core.Bool.{Bool, true, false, _&&_, _||_}
 use mathlib.Core.List.{List, [], _∷_}
@@ -16,47 +11,25 @@ use Rattle.integers.specs.Numbers.{log2, logIn, Divides, Coprime}
 use Rattle.integers.proofs.Parts.{up, down, eq-of}
 use Rattle.fractions.specs.Pairs.{limit, Inside, Lowest, LowestTerms}
 use Rattle.fractions.specs.Expansion.{nextNum, iterNum, digitsTo}
 use Rattle.registers.specs.Registers.{cellCount, Load, sumBelow, yTo, numOf}
 use Rattle.registers.specs.Answers.{Loads, loaded, ReadsBack, pair}
 use Rattle.registers.specs.declared.Register.{Register}
 use Rattle.registers.proofs.Loading.{load-numerator, load-valid}
 use Rattle.registers.proofs.Reading.{inside-lowest}
-
-pub data Row : Type 0 where
-  row : ℤ → ℕ → ℕ → ℤ → ℤ → ℕ → Row
-
-abbrev pub Holds : Row → Type 0
-Holds (row p q a m p' q') = Loads p q 0 (record { q = q; cells = a; memory = m }) × ReadsBack (record { q = q; cells = a; memory = m }) 0 p' q'
-
-abbrev pub Every : List Row → Type 0
-Every [] = Unit {0}
-Every (x ∷ xs) = Holds x × Every xs
-
-abbrev pub rows : List Row
-rows =
-    row (pos 1) 1 1 (negsuc 0) (pos 1) 1
-    ∷ row (pos 2) 1 0 (negsuc 0) (pos 2) 1
-    ∷ row (negsuc 0) 37 19 (pos 0) (negsuc 0) 37
-    ∷ row (negsuc 4) 15 5 (pos 0) (negsuc 0) 3
-    ∷ []
 
 -- ---- the test
-abbrev same : ℤ → ℤ → Bool
+abbrev pub same : ℤ → ℤ → Bool
 same x y = eqb (up x + down y) (up y + down x)
 
 -- a 1 in the pair makes it lowest terms, which is all that the table needs
-abbrev test : Row → Bool
-test (row p q a m p' q') =
+abbrev pub loadsb : ℤ → ℕ → ℕ → ℤ → ℤ → ℕ → Bool
+loadsb p q a m p' q' =
     (eqb (q % 2) 1 && (leb q limit && leb (natAbs p) limit))
     && ((eqb a (digitsTo q (cellCount q) p) && (same (m *ℤ pos (2 ^ cellCount q)) (yTo q a (cellCount q) -ℤ p) && leb (natAbs m) (2 ^ 30)))
     && (leb 1 q' && ((eqb q' 1 || eqb (natAbs p') 1) && same (p *ℤ pos q') (p' *ℤ pos q))))
 
-abbrev tests : List Row → Bool
-tests [] = true
-tests (x ∷ xs) = test x && tests xs
-
 -- ---- and what it shows
-and-T : (a b : Bool) → T (a && b) → T a × T b
+pub and-T : (a b : Bool) → T (a && b) → T a × T b
 and-T true b t = (tt, t)
 and-T false b t = absurd t
 
@@ -72,8 +45,9 @@ one-lowest a b t = go (eqb a 1) (eqb→eq a 1) (eqb→eq b 1) t
     go true f g t d h k = divides-one d (subst (Divides d) (f tt) h)
     go false f g t d h k = divides-one d (subst (Divides d) (g t) k)
 
-holds : (x : Row) → T (test x) → Holds x
-holds (row p q a m p' q') t =
+pub loads-sound : (p : ℤ) (q a : ℕ) (m : ℤ) (p' : ℤ) (q' : ℕ) → T (loadsb p q a m p' q')
+    → Loads p q 0 (record { q = q; cells = a; memory = m }) × ReadsBack (record { q = q; cells = a; memory = m }) 0 p' q'
+loads-sound p q a m p' q' t =
     let r = cellCount q in
     let t₀ = and-T (eqb (q % 2) 1 && (leb q limit && leb (natAbs p) limit)) _ t in
     let i₀ = and-T (eqb (q % 2) 1) _ (t₀ .0) in
@@ -90,11 +64,3 @@ holds (row p q a m p' q') t =
     let f : natAbs m ≤ 2 ^ 30 = leb→le (natAbs m) (2 ^ 30) (l₁ .1) in
     let k : Lowest p q p' q' = record { some = leb→le 1 q' (b₀ .0); lowest = one-lowest q' (natAbs p') (b₁ .0); same = eq-of _ _ (eqb→eq _ _ (b₁ .1)) } in
     (loaded i l f, pair (load-valid p q g i l f) (subst (λ (z : ℤ). Lowest z q p' q') (sym (load-numerator p q g l)) k) (inside-lowest p q p' q' i k))
-
-every : (xs : List Row) → T (tests xs) → Every xs
-every [] t = tt
-every (x ∷ xs) t = let u = and-T (test x) (tests xs) t in (holds x (u .0), every xs (u .1))
-
-pub starred : Every rows
-unfolding digitsTo iterNum nextNum yTo sumBelow log2 logIn
-starred = every rows tt

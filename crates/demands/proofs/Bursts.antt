@@ -1,5 +1,4 @@
--- The starred bursts, as one table under one statement: for each row its fraction meets the contract, and every answer that meets it is this one.
--- The test of a row is computed from the definitions alone, by trying every pair that is no larger; `learns-sound` says what a passed test means.
+-- A burst and its fraction, tested: computed from the definitions alone, by trying every pair that is no larger. `learns-sound` says what a passed test means.
 use mathlib.Core.Path.{_≡_, refl, sym, ap, _∙_, subst, subst₂}
 use mathlib.Core.Logic.{_⊎_, inl, inr}
 use mathlib.Core.Bool.{Bool, true, false, not, _&&_, _||_}
@@ -16,16 +15,10 @@ use Rattle.integers.proofs.Finite.{le-or-gt}
 use Rattle.bits.specs.Bits.{num, digits, value}
 use Rattle.fractions.specs.Pairs.{limit, Inside, Fits, size, below, Then, NotAfter, Smallest}
 use Rattle.fractions.proofs.Lowest.{part}
+use Rattle.demands.proofs.Loaded.{and-T}
 use Rattle.learning.specs.Learning.{Enough, Learns, answer}
-use Rattle.learning.specs.declared.Learned.{Learned}
-use Rattle.learning.specs.declared.Learned.the-variants.{Answer}
-use Rattle.learning.proofs.Laws.{Meets, learned-unique}
 
 -- ---- tests and what they mean
-and-T : (a b : Bool) → T (a && b) → T a × T b
-and-T true b t = (tt, t)
-and-T false b t = absurd t
-
 -- f of every number up to n
 abbrev pub upTo : ℕ → (ℕ → Bool) → Bool
 upTo zero f = f zero
@@ -118,54 +111,6 @@ learns-sound bytes count p q t =
     answer (record { few = leb→le count 4096 (a .0); there = leb→le count (8 * length bytes) (b .0) })
     (record { inside = inside-sound p q (c .0); fits = fits-sound count A p q (d .0); first = first-sound count A p q (d .1) })
 
--- ---- the table: "Bits are written first bit left."
-pub record Row : Type 0 where
-  pub bits : List ℕ
-  pub p : ℤ
-  pub q : ℕ
-
--- the bits in as few bytes as hold them
+-- bits, first bit left, in as few bytes as hold them
 abbrev pub packed : List ℕ → List ℕ
 packed bits = digits 256 ((length bits + 7) / 8) (num 2 bits)
-
-abbrev pub answerOf : Row → Learned
-answerOf r = Answer (record { p = r .p; q = r .q })
-
--- the fraction meets the contract, and any answer that meets it is this one
-abbrev pub Says : Row → Type 0
-Says r = Meets (packed (r .bits)) (length (r .bits)) (answerOf r) × ((x : Learned) → Meets (packed (r .bits)) (length (r .bits)) x → x ≡ answerOf r)
-
-abbrev pub test : Row → Bool
-test r = learnsb (packed (r .bits)) (length (r .bits)) (r .p) (r .q)
-
-pub says-sound : (r : Row) → T (test r) → Says r
-says-sound r t =
-    let h = learns-sound (packed (r .bits)) (length (r .bits)) (r .p) (r .q) t in
-    (h, (λ x k. learned-unique (packed (r .bits)) (length (r .bits)) x (answerOf r) k h))
-
-abbrev pub Every : List Row → Type 0
-Every [] = Unit {0}
-Every (r ∷ rs) = Says r × Every rs
-
-abbrev all : List Row → Bool
-all [] = true
-all (r ∷ rs) = test r && all rs
-
-every-sound : (rs : List Row) → T (all rs) → Every rs
-every-sound [] t = tt
-every-sound (r ∷ rs) t = let a = and-T (test r) (all rs) t in (says-sound r (a .0), every-sound rs (a .1))
-
-abbrev pub rows : List Row
-rows = record { bits = []; p = pos 0; q = 1 }
-    ∷ record { bits = 1 ∷ []; p = pos 1; q = 1 }
-    ∷ record { bits = 1 ∷ 1 ∷ []; p = negsuc 0; q = 1 }
-    ∷ record { bits = 0 ∷ 1 ∷ []; p = pos 2; q = 1 }
-    ∷ record { bits = 0 ∷ 0 ∷ 1 ∷ []; p = pos 4; q = 1 }
-    ∷ record { bits = 1 ∷ 0 ∷ 1 ∷ []; p = negsuc 0; q = 3 }
-    ∷ record { bits = 1 ∷ 0 ∷ 1 ∷ 1 ∷ []; p = negsuc 2; q = 1 }
-    ∷ record { bits = 1 ∷ 1 ∷ 0 ∷ 0 ∷ 1 ∷ 0 ∷ 1 ∷ 0 ∷ 0 ∷ 0 ∷ 1 ∷ 0 ∷ 0 ∷ []; p = negsuc 0; q = 37 }
-    ∷ []
-
-pub starred : Every rows
-unfolding value num digits
-starred = every-sound rows tt
