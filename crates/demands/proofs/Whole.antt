@@ -28,11 +28,11 @@ use Rattle.fractions.proofs.Expansion.{expansion-fits}
 use Rattle.fractions.proofs.Order.{smallest-recovered}
 use Rattle.records.specs.Block.{meters}
 use Rattle.registers.specs.declared.Register.{Register}
-use Rattle.registers.specs.Registers.{Valid, iterOf, outTo, numOf, Load}
-use Rattle.registers.specs.Answers.{Loads, loaded, ReadsBack, pair}
+use Rattle.registers.specs.Registers.{Valid, iterOf, outTo, numOf}
+use Rattle.registers.specs.Answers.{Loads, ReadsBack, pair}
 use Rattle.registers.proofs.States.{emits}
-use Rattle.registers.proofs.Loading.{load-numerator, load-valid}
 use Rattle.registers.proofs.Reading.{digits-same}
+use Rattle.registers.proofs.Answers.{read-back-emits}
 use Rattle.store.specs.Places.{isStore, fresh, burst}
 use Rattle.store.specs.ByMeter.{LearnsMeter, answer, damaged, unknown, none}
 use Rattle.store.specs.Runs.{Runs, broughtBy}
@@ -101,12 +101,9 @@ module _ (g : Register) (p : ℤ) (q b n meter : ℕ) (blocks : List (List ℕ))
   whole-learns number p' q' (none a f) = absurd (f p q (read-parts g p q (h .read) .inside) place-fits)
 
 -- ---- for ever
-load-digits : (p : ℤ) (q n : ℕ) (k : Register) → Loads p q 0 k → outTo n k ≡ digitsTo q n p
-load-digits p q n k (loaded i l m) = emits n k (load-valid p q k i l m) ∙ ap₂ (λ (x : ℕ) (z : ℤ). digitsTo x n z) (l .q-is) (load-numerator p q k l)
-
 module _ (g k : Register) (p : ℤ) (q : ℕ) (r : ReadsBack g 0 p q) (l : Loads p q 0 k) where
   pub whole-emits : (n : ℕ) → outTo n k ≡ outTo n g
-  whole-emits n = load-digits p q n k l ∙ sym (read-digits g p q n r)
+  whole-emits n = read-back-emits n g k p q r l
 
   -- after any number of steps the two emit the same bits
   same-after : (i m : ℕ) → outTo m (iterOf i k) ≡ outTo m (iterOf i g)
