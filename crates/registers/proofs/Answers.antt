@@ -1,17 +1,19 @@
 -- The answers: each contract determines them, and what loading and reading back are to each other.
 --
---   step-unique, load-unique, read-back-unique, sheet-unique
+--   valid-unique, step-unique, load-unique, read-back-unique, sheet-unique
 --                    any two results that meet the contract of one of the public functions are equal
 --   load-emits       demand 2: the register loaded from a pair, stepped n times, emits the first n bits of p/q, for every n
 --   load-numerator   its numerator is p
 --   load-read-back   reading back a loaded pair gives its lowest terms, and is not refused
 --   read-back-emits  loading what was read back emits the same bits
 use mathlib.Core.Path.{_≡_, refl, sym, ap, ap₂, _∙_, subst}
+use mathlib.Core.Bool.{Bool, true, false}
 use Prim.Native.Nat.{ℕ, _+_, _*_, _%_, _^_, _≤_, _<_}
 use native.Mathlib.Omega.{arith}
 use lib.IntN.{ℤ, pos, natAbs}
 use Rattle.integers.proofs.Finite.{least-unique}
 use Rattle.fractions.specs.Pairs.{Inside, Lowest}
+use Rattle.fractions.specs.Answers.{Decides}
 use Rattle.fractions.specs.Expansion.{digitsTo}
 use Rattle.fractions.specs.declared.Fraction.{Fraction}
 use Rattle.fractions.proofs.Lowest.{lowest-unique}
@@ -30,6 +32,13 @@ use Rattle.registers.specs.declared.StorageSheet.the-variants as Sheet
 use Rattle.registers.proofs.States.{emits}
 use Rattle.registers.proofs.Loading as Rule
 use Rattle.registers.proofs.Reading.{inside-lowest, digits-same}
+
+-- ---- valid or not
+pub valid-unique : (g : Register) (r s : Bool) → Decides (Valid g) r → Decides (Valid g) s → r ≡ s
+valid-unique g true true h k = refl
+valid-unique g true false h k = absurd (k h)
+valid-unique g false true h k = absurd (h k)
+valid-unique g false false h k = refl
 
 -- ---- step
 steps-same : {g : Register} {m n b c : ℕ} {x y : Register} → Steps g m b x → Steps g n c y → (m ≡ n) × (b ≡ c) × (x ≡ y)

@@ -12,7 +12,7 @@ use native.Mathlib.Numerals.{add-one}
 use borrow.Author.Tests.{leb-true, leb-false}
 use lib.Dec.{T, leb}
 use mir.Syntax.{w32, w64}
-use mir.Val.{SFits, toZ, ofZ}
+use mir.Val.{Fits, toZ, ofZ}
 use mir.ValLaws.{toZ-ofZ}
 use lib.IntN.{ℤ, pos, negsuc, natAbs, _+ℤ_, _*ℤ_}
 use lib.Signed.{mag}
@@ -51,8 +51,17 @@ pub taps-more : (q a r k : ℕ) → tapsTo q a r (k + 1) ≡ tapsTo q a r k + bi
 unfolding tapsTo
 taps-more q a r k = rw (add-one k)
 
-pub bit-mul : (a b : ℕ) → a % 2 * (b % 2) ≤ 1
+bit-mul : (a b : ℕ) → a % 2 * (b % 2) ≤ 1
 bit-mul a b = mul-le-mul {n₂ = 1} {m₂ = 1} (omega arith) (omega arith)
+
+pub bit-fits : (a b : ℕ) → Fits w32 (a % 2 * (b % 2))
+bit-fits a b = record { fits = omega (arith, bit-mul a b) }
+
+pub more-fits : (s a b : ℕ) → s ≤ 30 → Fits w32 (s + a % 2 * (b % 2))
+more-fits s a b h = record { fits = omega (arith, bit-mul a b) }
+
+pub more-le : (s a b k : ℕ) → s ≤ k → s + a % 2 * (b % 2) ≤ k + 1
+more-le s a b k h = omega (arith, bit-mul a b)
 
 pub taps-le : (q a r k : ℕ) → tapsTo q a r k ≤ k
 unfolding tapsTo

@@ -96,7 +96,8 @@ fn advance(g: Register) -> Register
     let q = g.q;
     let cells = g.cells;
     let r = cell_count(q);
-    let s = plus(wide(g.memory), tap_sum(q, cells, r));
+    let m = wide(g.memory);
+    let s = plus(m, tap_sum(q, cells, r));
     let top = odd(s) * power(r - 1);
     Register {
         q: q,
@@ -181,11 +182,13 @@ pub fn read_back(g: Register) -> ReadBack
     ensures { λ r. ⌜ ReadsBack g (readNumber r) (readP r) (readQ r) ⌝ }
 {
     if is_valid(g) {
-        let t = fractions::lowest_terms(numerator(g), g.q as u64);
+        let q = g.q as u64;
+        let t = fractions::lowest_terms(numerator(g), q);
+        let lowest = t.q;
         if integers::magnitude(t.p) <= LIMIT as u64 {
             ReadBack::Pair(Fraction {
                 p: narrow(t.p),
-                q: t.q as u32,
+                q: lowest as u32,
             })
         } else {
             ReadBack::Outside

@@ -4,7 +4,7 @@ ghost use Prim.Native.Nat.{ℕ, _+_, _*_, _^_, _≤_, _<_};
 ghost use Rattle.registers.specs.Registers.{cellCount};
 ghost use Rattle.registers.specs.Inner.{tapsTo, overTo};
 
-// The number of cells r = floor(log2(q + 1)). Not an entry point: its callers in other crates show that q is inside the limits.
+// The number of cells, r = floor(log2(q + 1)).
 pub fn cell_count(q: u32) -> u32
     requires { ⌜ q < 2 ^ 30 ⌝ }
     ensures { λ r. ⌜ r ≡ cellCount q ⌝ }
@@ -12,7 +12,7 @@ pub fn cell_count(q: u32) -> u32
     31 - u32::leading_zeros(q + 1)
 }
 
-// 2^k. Not an entry point: its callers in other crates show that k is below 32.
+// 2^k
 pub fn power(k: u32) -> u32
     requires { ⌜ k < 32 ⌝ }
     ensures { λ r. ⌜ r ≡ 2 ^ k ⌝ }

@@ -37,7 +37,9 @@ tap-sum-requires c κs = let f = known (c .before .before .before) in omega arit
 
 plus-requires : tie.Need-plus-requires
 plus-requires c κs =
-    let f = known (c .before .before .before .before) in rw (memory-is (c .before)) (omega arith)
+    let f = known (c .before .before .before .before) in
+    let m : natAbs (toZ w64 (ofZ w64 (c .before .wide .result))) ≤ 2 ^ 30 = rw (memory-is (c .before)) (omega arith) in
+    omega arith
 
 odd-requires : tie.Need-odd-requires
 odd-requires c κs = search needs

@@ -24,27 +24,26 @@ is-valid-requires c κs = search needs
 is-valid : (c : tie.Then1) → Valid (c .before .before .args .g)
 is-valid c = subst (Decides (Valid (c .before .before .args .g))) (c .if1 .taken) (c .before .is-valid .ensures)
 
+cast-q : tie.Need-cast-q
+cast-q c = search needs
+
 numerator-requires : tie.Need-numerator-requires
-numerator-requires c κs = is-valid c
+numerator-requires c κs = is-valid (c .before)
 
-numerator-is : (c : tie.After-numerator) → toZ w64 (ofZ w64 (c .numerator .result)) ≡ numOf (c .before .before .before .args .g)
+numerator-is : (c : tie.After-numerator) → toZ w64 (ofZ w64 (c .numerator .result)) ≡ numOf (c .before .before .before .before .args .g)
 numerator-is c = toZ-ofZ w64 _ (record { sfits = c .numerator .ok }) ∙ c .numerator .ensures
-
-cast-lowest-terms : tie.Need-cast-lowest-terms
-cast-lowest-terms c = search needs
 
 lowest-terms-requires : tie.Need-lowest-terms-requires
 lowest-terms-requires c κs =
-    let n = c .before in
-    let v = is-valid (n .before) in
-    rw (numerator-is n) (omega (arith, v .some), omega (arith, numerator-small _ v))
+    let v = is-valid (c .before .before) in
+    rw (numerator-is c) (omega (arith, v .some), omega (arith, numerator-small _ v))
 
 -- the lowest terms, and p as the machine reads it back
 reduced : (c : tie.After-lowest-terms)
     → Reduced (numOf (c .before .before .before .before .before .args .g)) (c .before .before .before .before .before .args .g .q) (c .lowest-terms .result .p) (c .lowest-terms .result .q)
 reduced c =
-    let n = c .before .before in
-    let g = n .before .before .before .args .g in
+    let n = c .before in
+    let g = n .before .before .before .before .args .g in
     subst (λ (z : ℤ). Reduced z (g .q) (c .lowest-terms .result .p) (c .lowest-terms .result .q)) (numerator-is n) (c .lowest-terms .ensures)
 
 p-back : (c : tie.After-lowest-terms) → toZ w64 (ofZ w64 (c .lowest-terms .result .p)) ≡ c .lowest-terms .result .p
@@ -66,23 +65,22 @@ narrow-requires c κs =
     let m = c .before .before in
     rw (p-back (m .before .before)) (omega (arith, size-is m, c .before .if2 .taken))
 
-cast-t11 : tie.Need-cast-t11
-cast-t11 c =
-    let t = c .before .before .before .before .before .before in
+cast-t13 : tie.Need-cast-t13
+cast-t13 c =
+    let t = c .before .before .before .before .before in
     let v = is-valid (t .before .before .before) in
     omega (arith, reduced t .q-less, v .q-most)
 
 returns : tie.Need-returns
 returns c =
-    let n = c .before in
-    let m = n .before .before .before in
+    let m = c .before .before .before in
     let t = m .before .before in
     let g = t .before .before .before .before .before .args .g in
     let v = is-valid (t .before .before .before) in
     let d = reduced t in
-    let e = toZ-ofZ w32 _ (record { sfits = n .narrow .ok }) ∙ n .narrow .ensures ∙ p-back t in
+    let e = toZ-ofZ w32 _ (record { sfits = c .narrow .ok }) ∙ c .narrow .ensures ∙ p-back t in
     subst (λ (z : ℤ). ReadsBack g 0 z (t .lowest-terms .result .q)) (sym e)
-    (pair v (d .lowest) (lowest-inside (numOf g) (g .q) (t .lowest-terms .result .p) (t .lowest-terms .result .q) (v .odd) (v .q-most) (d .lowest) (omega (arith, size-is m, n .before .before .if2 .taken))))
+    (pair v (d .lowest) (lowest-inside (numOf g) (g .q) (t .lowest-terms .result .p) (t .lowest-terms .result .q) (v .odd) (v .q-most) (d .lowest) (omega (arith, size-is m, c .before .before .if2 .taken))))
 
 returns-2 : tie.Need-returns-2
 returns-2 c =
@@ -99,13 +97,13 @@ read-back-spec =
     tie.close
     (tie.spec
     is-valid-requires
+    cast-q
     numerator-requires
-    cast-lowest-terms
     lowest-terms-requires
     magnitude-requires
     cast-if2
     narrow-requires
-    cast-t11
+    cast-t13
     returns
     returns-2
     returns-3)

@@ -2,9 +2,8 @@
 use mathlib.Core.Path.{_≡_, sym, ap, _∙_}
 use Prim.Native.Nat.{ℕ, _+_, _-_, _*_, _/_, _%_, _^_, _≤_}
 use native.Mathlib.Omega.{arith}
-use Rattle.bits.specs.Bits.{bitOf}
 use Rattle.registers.specs.Inner.{tapsTo}
-use Rattle.registers.proofs.Validity.{taps-more, bit-mul}
+use Rattle.registers.proofs.Validity.{taps-more, bit-fits, more-fits, more-le}
 use Rattle.registers.proofs.sums.tap_sum.Statement.{statement}
 use Rattle.registers.proofs.sums.tap_sum.Tie as tie
 
@@ -33,20 +32,19 @@ sub-sum c = omega arith
 shr-sum-2 : tie.Need-shr-sum-2 Inv-loop μ-loop
 shr-sum-2 c = omega arith
 
-small : (c : tie.In-loop Inv-loop μ-loop) → bitOf (c .before .before .args .q + 1) (c .before .loop .k + 1) * bitOf (c .before .before .args .cells) (c .before .before .args .r - (c .before .loop .k + 1)) ≤ 1
-small c = bit-mul _ _
-
 mul-sum : tie.Need-mul-sum Inv-loop μ-loop
-mul-sum c = omega (arith, small c)
+mul-sum c = bit-fits _ _
 
 add-sum-2 : tie.Need-add-sum-2 Inv-loop μ-loop
-add-sum-2 c = omega (arith, small c)
+add-sum-2 c = more-fits _ _ _ (omega arith)
 
 loop-less : tie.Need-loop-less Inv-loop μ-loop
 loop-less c = omega arith
 
 loop-again : tie.Need-loop-again Inv-loop μ-loop
-loop-again c = omega (arith, small c, taps-more (c .before .before .args .q) (c .before .before .args .cells) (c .before .before .args .r) (c .before .loop .k))
+loop-again c =
+    let a = c .before .before .args in
+    (omega arith, more-le _ _ _ _ (c .before .loop .inv .1), omega (arith, taps-more (a .q) (a .cells) (a .r) (c .before .loop .k)))
 
 returns : tie.Need-returns Inv-loop μ-loop
 returns c =
