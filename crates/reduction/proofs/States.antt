@@ -19,7 +19,7 @@ use Rattle.reduction.proofs.Keys.{Before, before-of, before-iff, no-lar
 use Rattle.reduction.proofs.Turns.{extend-reduced, side-even}
 
 -- to move down: bits
-pub bit-le : (bytes : List ℕ) (i : ℕ) → bitAt bytes i ≤ 1
+bit-le : (bytes : List ℕ) (i : ℕ) → bitAt bytes i ≤ 1
 bit-le bytes i = omega arith
 
 pub value-lt : (bytes : List ℕ) (k : ℕ) → value bytes k < 2 ^ k

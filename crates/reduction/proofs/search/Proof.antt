@@ -7,7 +7,7 @@ use lib.Pow.{pow-mono}
 use lib.IntN.{pos}
 use Rattle.reduction.specs.Vectors.{vect}
 use Rattle.reduction.specs.Reduced.{Turned, After}
-use Rattle.reduction.proofs.States.{bit-le, at-none, at-more, at-small, within-le}
+use Rattle.reduction.proofs.States.{at-none, at-more, at-small, within-le}
 use Rattle.reduction.proofs.search.Statement.{statement}
 use Rattle.reduction.proofs.search.Tie as tie
 
@@ -32,7 +32,7 @@ turn-requires c κs =
     let bytes = c .before .before .before .before .before .args .bytes .now in
     let s = at-small bytes (l .i) (omega arith) (l .inv .2) in
     let p = pow-mono {i = l .i} {j = 60} (omega arith) in
-    (within-le p (s .in-f), within-le p (s .in-g), subst (λ (n : ℕ). n ≤ 1) (sym (c .bit-at .ensures)) (bit-le bytes (l .i)))
+    (within-le p (s .in-f), within-le p (s .in-g), omega (arith, c .bit-at .ensures))
 
 add-i : tie.Need-add-i Inv-loop μ-loop
 add-i c = omega arith

@@ -46,13 +46,15 @@ is-odd-requires : tie.Need-is-odd-requires
 is-odd-requires c κs = search needs
 
 smaller-requires-2 : tie.Need-smaller-requires-2
-smaller-requires-2 c κs = search needs
+smaller-requires-2 c κs = search (needs, third-in (c .before .before .before))
 
 doubled-requires : tie.Need-doubled-requires
 doubled-requires c κs = let s = c .before .before .before .before .before .before .before .before .before in (within-pick (c .smaller2 .ensures) (wider (s .pre .0)) (wider (s .pre .1)), s .pre .2)
 
 halved-requires : tie.Need-halved-requires
-halved-requires c κs = (third-in (c .before .before .before .before .before), c .before .before .before .before .before .before .before .before .before .before .pre .2)
+halved-requires c κs =
+    let s = c .before .before .before .before .before .before .before .before .before .before in
+    search (needs, third-in (c .before .before .before .before .before), wider (s .pre .0), wider (s .pre .1))
 
 smaller-requires-3 : tie.Need-smaller-requires-3
 smaller-requires-3 c κs = (wider (c .before .before .before .before .before .before .before .before .pre .0), third-in (c .before .before .before))
