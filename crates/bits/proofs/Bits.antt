@@ -1,15 +1,16 @@
 -- What the numbers say of single bits: bit i of a list of bytes is bit i of its number; packing and unpacking are inverse.
 use Prim.Native.Nat.{ℕ, zero, suc, _+_, _*_, _-_, _/_, _%_, _^_, _≤_, _<_}
-use mathlib.Core.Path.{_≡_, refl, sym, ap, _∙_, subst}
+use mathlib.Core.Path.{_≡_, refl, sym, ap, _∙_, subst, ap₂}
 use mathlib.Core.List.{List, [], _∷_}
 use mathlib.Core.Logic.{_⊎_, inl, inr, ⊎-elim}
-use native.Mathlib.Nat.{pow-succ', pow-zero, div-one, div-eq-of-lt, div-div-eq-div-mul, div-add-mod, div-lt-iff-lt-mul, pow-le-pow-right, zero-div, zero-mod, mod-add-div, div-le-self}
+use native.Mathlib.Nat.{pow-succ', pow-zero, div-one, div-eq-of-lt, div-div-eq-div-mul, div-add-mod, div-lt-iff-lt-mul, pow-le-pow-right, zero-div, zero-mod, mod-add-div, div-le-self, div-add-mod'}
 use native.Mathlib.Omega.{arith}
 use lib.ListN.{length, getD, List·getD-eq-default}
 use lib.Pow.{pow-pos, pow-mono, pow-add}
 use Rattle.bits.specs.Bits.{num, digits, Below, bitAt}
 use Rattle.bits.proofs.Numbers.{num-digits, digits-num, num-lt, getD-digits, pow8}
 use Rattle.integers.proofs.Finite.{lt-or-ge}
+use lib.Bits.{bitXor, differ, xor-step, xor-shr, xor-mod}
 
 low-bits : (s m : ℕ) → s < 8 → m % 256 / 2 ^ s % 2 ≡ m / 2 ^ s % 2
 low-bits zero m k = omega arith
@@ -74,3 +75,28 @@ zero-spare bytes c l h =
     let z : n / 2 ^ c ≡ 0 = none-at-all (8 * length bytes) (n / 2 ^ c) (omega (arith, num-lt 256 bytes l, pow8 (length bytes), div-le-self n (2 ^ c))) (λ i. ap (λ (x : ℕ). x % 2) (div-div-eq-div-mul n (2 ^ c) (2 ^ i) ∙ ap (λ (x : ℕ). n / x) (sym (pow-add 2 c i))) ∙ sym (bit-of bytes (c + i) l) ∙ h (c + i) (omega arith)) in
     let y : n < 1 * 2 ^ c = div-lt-iff-lt-mul {k = 2 ^ c} {x = n} {y = 1} (pow-pos c) .0 (omega arith) in
     omega arith
+
+-- ---- exclusive or with the same number twice changes nothing
+differ-back : (d e : ℕ) → d < 2 → e < 2 → differ (bitXor d e) e ≡ d
+differ-back zero zero h k = refl
+differ-back zero (suc zero) h k = refl
+differ-back (suc zero) zero h k = refl
+differ-back (suc zero) (suc zero) h k = refl
+differ-back (suc (suc d)) e h k = let f : ⊥ = omega arith in absurd f
+differ-back zero (suc (suc e)) h k = let f : ⊥ = omega arith in absurd f
+differ-back (suc zero) (suc (suc e)) h k = let f : ⊥ = omega arith in absurd f
+
+pub xor-back : (a k : ℕ) → bitXor (bitXor a k) k ≡ a
+xor-back a k = go (a + k) a k (omega arith) (omega arith)
+  where
+    go : (n a k : ℕ) → a ≤ n → k ≤ n → bitXor (bitXor a k) k ≡ a
+    go zero a k h l =
+        let e : a ≡ 0 = omega arith in
+        let f : k ≡ 0 = omega arith in
+        ap₂ (λ (x y : ℕ). bitXor (bitXor x y) y) e f ∙ sym e
+    go (suc n) a k h l =
+        xor-step (bitXor a k) k
+        ∙ ap₂ (λ (x y : ℕ). x * 2 + y)
+        (ap (λ (x : ℕ). bitXor x (k / 2)) (xor-shr a k 1) ∙ go n (a / 2) (k / 2) (omega arith) (omega arith))
+        (ap (λ (x : ℕ). differ x (k % 2)) (xor-mod a k 1) ∙ differ-back (a % 2) (k % 2) (omega arith) (omega arith))
+        ∙ div-add-mod' a 2

@@ -4,12 +4,12 @@
 --   value-bits     value bytes n is the number of the first n bits
 --   value-more     m bits more add their window times 2 ^ i: one law for every m
 --   value-agree    where the first n bits are the same, so is the value: bits past the count have no effect
---   value-less     value bytes n is below 2 ^ n
+--   value-lt       value bytes n is below 2 ^ n
 --   window-bytes   a window of at most 32 bits from five bytes
 use Prim.Native.Nat.{ℕ, zero, suc, _+_, _*_, _-_, _/_, _%_, _^_, _≤_, _<_}
 use mathlib.Core.Path.{_≡_, refl, sym, ap, ap₂, _∙_, subst}
 use mathlib.Core.List.{List, [], _∷_}
-use native.Mathlib.Nat.{mod-lt, mod-one, add-comm, pow-suc, pow-succ', pow-zero, div-one, div-div-eq-div-mul, div-add-mod}
+use native.Mathlib.Nat.{mod-lt, mod-one, add-comm, pow-suc, pow-succ', pow-zero, div-one, div-div-eq-div-mul, div-add-mod, mul-le-mul-right}
 use native.Mathlib.Omega.{arith}
 use lib.Pow.{pow-pos, pow-add, mod-pow-add, field, mod-mod-pow}
 use lib.ListN.{getD}
@@ -48,8 +48,16 @@ value-num bytes (suc n) l =
 pub value-bits : (bytes : List ℕ) (n : ℕ) → Below 256 bytes → value bytes n ≡ num 2 (digits 2 n (num 256 bytes))
 value-bits bytes n l = value-num bytes n l ∙ sym (num-low n (num 256 bytes))
 
-pub value-less : (bytes : List ℕ) (n : ℕ) → Below 256 bytes → value bytes n < 2 ^ n
-value-less bytes n l = subst (λ (x : ℕ). x < 2 ^ n) (sym (value-num bytes n l)) (mod-lt (num 256 bytes) (pow-pos n))
+pub bit-lt : (bytes : List ℕ) (i : ℕ) → bitAt bytes i < 2
+bit-lt bytes i = omega arith
+
+pub value-lt : (bytes : List ℕ) (n : ℕ) → value bytes n < 2 ^ n
+unfolding value
+value-lt bytes zero = omega arith
+value-lt bytes (suc n) = rw (pow-suc 2 n) (omega (arith, value-lt bytes n, mul-le-mul-right {m = bitAt bytes n} {n = 1} (2 ^ n) (one (bitAt bytes n) (bit-lt bytes n))))
+  where
+    one : (b : ℕ) → b < 2 → b ≤ 1
+    one b h = omega arith
 
 pub value-more : (bytes : List ℕ) (i m : ℕ) → Below 256 bytes → value bytes (i + m) ≡ value bytes i + window bytes i m * 2 ^ i
 value-more bytes i m l =

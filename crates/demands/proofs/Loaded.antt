@@ -15,7 +15,7 @@ use Rattle.registers.specs.Registers.{cellCount, Load, sumBelow, yTo, numOf}
 use Rattle.registers.specs.Answers.{Loads, loaded, ReadsBack, pair}
 use Rattle.registers.specs.declared.Register.{Register}
 use Rattle.registers.proofs.Loading.{load-numerator, load-valid}
-use Rattle.registers.proofs.Reading.{inside-lowest}
+use Rattle.fractions.proofs.Lowest.{inside-lowest}
 
 -- ---- the test
 abbrev pub same : ℤ → ℤ → Bool

@@ -24,14 +24,13 @@ use Rattle.bits.proofs.Values.{num-low}
 use Rattle.fractions.specs.Pairs.{Inside, Fits, Smallest, Lowest}
 use Rattle.fractions.specs.Expansion.{iterNum, digitsTo}
 use Rattle.fractions.proofs.Numerators.{digits-lt}
-use Rattle.fractions.proofs.Expansion.{expansion-fits}
+use Rattle.fractions.proofs.Expansion.{expansion-fits, digits-same}
 use Rattle.fractions.proofs.Order.{smallest-recovered}
 use Rattle.records.specs.Block.{meters}
 use Rattle.registers.specs.declared.Register.{Register}
 use Rattle.registers.specs.Registers.{Valid, iterOf, outTo, numOf}
 use Rattle.registers.specs.Answers.{Loads, ReadsBack, pair}
-use Rattle.registers.proofs.States.{emits}
-use Rattle.registers.proofs.Reading.{digits-same}
+use Rattle.registers.proofs.States.{emits, iter-add, out-add}
 use Rattle.registers.proofs.Answers.{read-back-emits}
 use Rattle.store.specs.Places.{isStore, fresh, burst}
 use Rattle.store.specs.ByMeter.{LearnsMeter, answer, damaged, unknown, none}
@@ -39,7 +38,6 @@ use Rattle.store.specs.Runs.{Runs, broughtBy}
 use Rattle.store.proofs.Kept.{fresh-store}
 use Rattle.store.proofs.Meters.{runs-kept, runs-fresh}
 use Rattle.whitening.specs.Whitening.{whiteOf, Whitens, whitened}
-use Rattle.whitening.proofs.Bytes.{iter-add, out-add}
 use Rattle.whitening.proofs.Laws.{white-twice}
 
 abbrev pub emittedBits : ℕ → Register → List ℕ

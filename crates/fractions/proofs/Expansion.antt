@@ -3,6 +3,7 @@
 --   fits-split, split-fits  fitting, as p = A q + 2^n p'
 --   expansion-fits          p/q fits its first n digits
 --   expansion-unique        .. and no other number below 2^n
+--   digits-same             two pairs that are the same fraction, both q odd, have the same expansion
 --   fits-more               a pair fits n + 1 bits exactly when it fits n and its next digit is the bit
 --   fits-digits             a pair fits a burst exactly when bit i is digit i, for each i below n
 --   digits-bit              bit i of the first n digits as one number is digit i
@@ -22,10 +23,12 @@ use Rattle.integers.proofs.Finite.{le-or-gt}
 use Rattle.integers.proofs.Order.{eq-by, z-sub, z-*}
 use Rattle.integers.proofs.Ring.{lit, neg, _⊕_, _⊗_, _⊖_, ring3, ring5, _≔_}
 use Rattle.bits.specs.Bits.{bitOf, bitAt, value}
-use Rattle.fractions.specs.Pairs.{Inside, Fits}
+use Rattle.fractions.specs.Pairs.{Inside, Fits, SameFraction}
 use Rattle.fractions.specs.Expansion.{nextNum, iterNum, digitAt, digitsTo}
 use Rattle.fractions.specs.Answers.{Outputs, word, outside}
 use Rattle.fractions.proofs.Numerators.{Splits, split-eq, split-of, expansion-splits, splits-unique, digits-add, digits-lt, odd-is}
+use Rattle.fractions.proofs.Same.{fits-same}
+use Rattle.bits.proofs.Values.{bit-lt, value-lt}
 
 pub fits-split : (n A : ℕ) (p : ℤ) (q : ℕ) → A < 2 ^ n → (f : Fits n A p q) → Splits (2 ^ n) q p A (negℤ (f .0))
 fits-split n A p q l f = split-of (2 ^ n) q p A (negℤ (f .0)) l
@@ -40,6 +43,10 @@ expansion-fits q n p o = split-fits n (digitsTo q n p) p (iterNum q n p) q (expa
 
 pub expansion-unique : (n A : ℕ) (p : ℤ) (q : ℕ) → q % 2 ≡ 1 → A < 2 ^ n → Fits n A p q → A ≡ digitsTo q n p
 expansion-unique n A p q o l f = splits-unique n q p A (digitsTo q n p) (negℤ (f .0)) (iterNum q n p) o (fits-split n A p q l f) (expansion-splits q n p o) .0
+
+pub digits-same : (n : ℕ) (p : ℤ) (q : ℕ) (p' : ℤ) (q' : ℕ) → q % 2 ≡ 1 → q' % 2 ≡ 1 → SameFraction p q p' q' → digitsTo q n p ≡ digitsTo q' n p'
+digits-same n p q p' q' o o' s =
+    expansion-unique n (digitsTo q n p) p' q' o' (digits-lt q n p) (fits-same n (digitsTo q n p) p q p' q' o s (expansion-fits q n p o))
 
 -- ---- one bit more
 -- numbers below T with a digit above are equal exactly where both parts are
@@ -64,14 +71,6 @@ fits-more n A a p q o l h = (
 )
 
 -- ---- a burst
-bit-lt : (bytes : List ℕ) (i : ℕ) → bitAt bytes i < 2
-bit-lt bytes i = omega arith
-
-value-lt : (bytes : List ℕ) (n : ℕ) → value bytes n < 2 ^ n
-unfolding value
-value-lt bytes zero = omega arith
-value-lt bytes (suc n) = rw (pow-suc 2 n) (above (2 ^ n) (value bytes n) (bitAt bytes n) (value-lt bytes n) (bit-lt bytes n))
-
 pub value-digits : (n : ℕ) (bytes : List ℕ) (p : ℤ) (q : ℕ) → ((i : ℕ) → i < n → bitAt bytes i ≡ digitAt q p i) → value bytes n ≡ digitsTo q n p
 unfolding value digitsTo
 value-digits zero bytes p q h = refl

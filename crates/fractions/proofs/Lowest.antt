@@ -6,21 +6,24 @@
 --   lowest-same     two pairs in lowest terms that are the same fraction are the same pair
 --   lowest-unique   so the lowest terms of a fraction are one pair
 --   reduced-by      divided by their greatest common divisor, and p with its sign
+--   lowest-inside   lowest terms of a fraction whose q is inside the limits are inside them where |p| is
+--   inside-lowest   so those of a pair inside the limits are inside them
+--   lowest-exists   every fraction has its lowest terms
 --   power-coprime   what divides both of two numbers of a combination that is a power of two, one of them odd, is 1
 use mathlib.Core.Path.{_≡_, refl, sym, ap, ap₂, _∙_, subst}
 use mathlib.Core.Bool.{Bool, true, false}
 use Prim.Native.Nat.{ℕ, zero, suc, _+_, _*_, _/_, _%_, _^_, _≤_, _<_}
 use native.Mathlib.Omega.{arith}
-use native.Mathlib.Nat.{pow-succ', mul-mod-right, mul-comm, eq-of-mul-eq-mul-right, div-le-self}
+use native.Mathlib.Nat.{pow-succ', mul-mod-right, mul-comm, eq-of-mul-eq-mul-right, div-le-self, eq-of-mul-eq-mul-left}
 use lib.IntN.{ℤ, pos, negsuc, negℤ, natAbs, _-ℤ_, _*ℤ_}
 use lib.Signed.{ltZ}
 use lib.Dec.{T}
 use borrow.Author.Tests.{ltb-true}
 use Rattle.integers.specs.Numbers.{Coprime, IsGcd}
-use Rattle.integers.proofs.Parts.{natAbs-*, natAbs-neg}
-use Rattle.integers.proofs.Coprime.{quot, euclid, GcdParts, gcd-parts}
+use Rattle.integers.proofs.Parts.{natAbs-*, natAbs-neg, pos-*}
+use Rattle.integers.proofs.Coprime.{quot, euclid, GcdParts, gcd-parts, lowest}
 use Rattle.integers.proofs.Ring.{neg, _⊗_, ring2, ring3, _≔_}
-use Rattle.fractions.specs.Pairs.{LowestTerms, SameFraction, Lowest}
+use Rattle.fractions.specs.Pairs.{LowestTerms, SameFraction, Lowest, limit, Inside}
 use Rattle.fractions.specs.Inner.{signedBy, Reduced}
 use Rattle.fractions.proofs.Same.{cancel}
 
@@ -142,3 +145,54 @@ reduced-by p q s d h e g = record {
     some : (c : ℕ) → q ≡ d * c → 1 ≤ c
     some zero k = absurd (omega arith)
     some (suc c) k = omega arith
+
+-- ---- inside the limits
+pub lowest-inside : (P : ℤ) (Q : ℕ) (p : ℤ) (q : ℕ) → Q % 2 ≡ 1 → Q ≤ limit → Lowest P Q p q → natAbs p ≤ limit → Inside p q
+lowest-inside P Q p q o l k h =
+    let m = multiple p q P Q (k .some) (k .lowest) (sym (k .same)) in
+    record {
+      odd = odd-left q (m .m) (subst (λ (x : ℕ). x % 2 ≡ 1) (m .q-is) o);
+      some = k .some;
+      q-most = less (m .m) (m .q-is);
+      p-most = h;
+    }
+  where
+    less : (m : ℕ) → Q ≡ q * m → q ≤ limit
+    less zero e = absurd (omega arith)
+    less (suc m) e = omega arith
+
+pub inside-lowest : (P : ℤ) (Q : ℕ) (p : ℤ) (q : ℕ) → Inside P Q → Lowest P Q p q → Inside p q
+inside-lowest P Q p q i k =
+    let m = multiple p q P Q (k .some) (k .lowest) (sym (k .same)) in
+    lowest-inside P Q p q (i .odd) (i .q-most) k (less (m .m) (m .q-is) (m .p-is))
+  where
+    less : (m : ℕ) → Q ≡ q * m → natAbs P ≡ natAbs p * m → natAbs p ≤ limit
+    less zero e f = absurd (omega (arith, i .some))
+    less (suc m) e f = omega (arith, i .p-most)
+
+-- ---- every fraction has its lowest terms
+pub lowest-multiple : {p : ℤ} {q : ℕ} {p' : ℤ} {q' : ℕ} → Lowest p q p' q' → Multiple p' q' p q
+lowest-multiple {p} {q} {p'} {q'} w = multiple p' q' p q (w .some) (w .lowest) (sym (w .same))
+
+pub some-factor : (q a m : ℕ) → 1 ≤ q → q ≡ a * m → 1 ≤ m
+some-factor q a zero h e = let f : ⊥ = omega arith in absurd f
+some-factor q a (suc m) h e = omega arith
+
+pub lowest-exists : (p : ℤ) (q : ℕ) → 1 ≤ q → (p' : ℤ) × (q' : ℕ) × Lowest p q p' q'
+lowest-exists p q s =
+    let l = lowest q (natAbs p) s in
+    let y = part (l .d) p (ap (λ n. n % l .d) (l .x-is) ∙ mul-mod-right (l .d) (l .k)) in
+    let d : 1 ≤ l .d = some-factor q (l .c) (l .d) s (l .q-is ∙ mul-comm (l .d) (l .c)) in
+    let k : natAbs (y .0) ≡ l .k = eq-of-mul-eq-mul-left (l .d) d (natAbs (y .0)) (l .k) (sym (y .1 .1) ∙ l .x-is) in (
+      y .0,
+      l .c,
+      record {
+        some = some-factor q (l .d) (l .c) s (l .q-is);
+        lowest = subst (λ n. Coprime (l .c) n) (sym k) (l .coprime);
+        same = ap (λ z. z *ℤ pos (l .c)) (y .1 .0) ∙ ring3 (λ d y c. d ⊗ y ⊗ c ≔ y ⊗ (d ⊗ c)) tt (pos (l .d)) (y .0) (pos (l .c))
+            ∙ ap (λ z. y .0 *ℤ z) (sym (pos-* (l .d) (l .c)) ∙ ap pos (sym (l .q-is)));
+      },
+    )
+
+pub lowest-odd : {p : ℤ} {q : ℕ} {p' : ℤ} {q' : ℕ} → Lowest p q p' q' → q % 2 ≡ 1 → q' % 2 ≡ 1
+lowest-odd {q} {q'} w o = let m = lowest-multiple w in odd-left q' (m .m) (ap (λ n. n % 2) (sym (m .q-is)) ∙ o)

@@ -1,8 +1,8 @@
 -- Divisibility as a remainder that is 0, lowest terms, Euclid's lemma (with no Bézout: the least c ≥ 1 with q | c x), and the greatest common divisor.
 use mathlib.Core.Path.{_≡_, refl, sym, ap, _∙_, subst}
-use Prim.Native.Nat.{ℕ, zero, suc, _+_, _-_, _*_, _/_, _%_, _∣_, _≤_, _<_}
+use Prim.Native.Nat.{ℕ, zero, suc, _+_, _-_, _*_, _/_, _%_, _^_, _∣_, _≤_, _<_}
 use native.Mathlib.Omega.{arith}
-use native.Mathlib.Nat.{div-add-mod, mul-add-mod-self-left, mul-assoc, mul-mod-right, mul-comm, mod-lt, one-mul, eq-of-mul-eq-mul-left, dvd-mod-iff, dvd-antisymm, dvd-iff-mod-eq-zero, mod-self, zero-mod, pos-of-dvd-of-pos, eq-one-of-dvd-one, dvd-of-mul-dvd-mul-left, mul-one}
+use native.Mathlib.Nat.{div-add-mod, mul-add-mod-self-left, mul-assoc, mul-mod-right, mul-comm, mod-lt, one-mul, eq-of-mul-eq-mul-left, dvd-mod-iff, dvd-antisymm, dvd-iff-mod-eq-zero, mod-self, zero-mod, pos-of-dvd-of-pos, eq-one-of-dvd-one, dvd-of-mul-dvd-mul-left, mul-one, mod-zero, mod-eq-of-lt}
 use native.Mathlib.Decide.{ℕ-discrete, map-dec}
 use Rattle.integers.specs.Numbers.{Divides, Coprime, IsGcd, Least}
 use Rattle.integers.proofs.Finite.{least}
@@ -135,3 +135,22 @@ gcd-parts a b d h g = record { some = some; a-is = quot d a (g .left); b-is = qu
     prime : Coprime (b / d) (a / d)
     prime e k l = eq-one-of-dvd-one (dvd-of-mul-dvd-mul-left {k = d} e {n = 1} some
         (subst (λ (n : ℕ). d * e ∣ n) (sym (mul-one d)) (dvd-iff-mod-eq-zero (d * e) .1 (g .most (d * e) (whole a e (g .left) l) (whole b e (g .right) k)))))
+
+-- ---- two is coprime to an odd q, so that factors of two cancel
+two-coprime : (q : ℕ) → q % 2 ≡ 1 → Coprime q 2
+two-coprime q o zero h k = let f : ⊥ = omega (arith, mod-zero 2, k) in absurd f
+two-coprime q o (suc zero) h k = refl
+two-coprime q o (suc (suc zero)) h k = let f : ⊥ = omega arith in absurd f
+two-coprime q o (suc (suc (suc d))) h k = let f : ⊥ = omega (arith, mod-eq-of-lt (two d), k) in absurd f
+  where
+    two : (d : ℕ) → 2 < suc (suc (suc d))
+    two d = omega arith
+
+pub two-cancel : (q i n : ℕ) → q % 2 ≡ 1 → (n * 2 ^ i) % q ≡ 0 → n % q ≡ 0
+two-cancel q zero n o h = ap (λ m. m % q) (sym (mul-one n)) ∙ h
+two-cancel q (suc i) n o h =
+    two-cancel q i n o
+    (euclid q 2 (n * 2 ^ i) (omega arith) (two-coprime q o) (ap (λ m. m % q) (alg n (2 ^ i) (2 ^ suc i) (omega arith)) ∙ h))
+  where
+    alg : (n P Q : ℕ) → Q ≡ 2 * P → n * P * 2 ≡ n * Q
+    alg n P Q e = omega (arith, ap (λ (m : ℕ). n * m) e)

@@ -1,5 +1,5 @@
 -- floor(log2 n): 2 ^ log2 n ≤ n < 2 ^ (log2 n + 1), and what the machine counts.
-use mathlib.Core.Path.{_≡_, refl, sym, ap, _∙_}
+use mathlib.Core.Path.{_≡_, refl, sym, ap, _∙_, subst}
 use mathlib.Core.Bool.{Bool, true, false}
 use Prim.Native.Nat.{ℕ, zero, suc, _+_, _-_, _*_, _/_, _%_, _^_, _≤_, _<_}
 use native.Mathlib.Omega.{arith}
@@ -8,9 +8,9 @@ use native.Mathlib.Decide.{le-ind}
 use mathlib.Core.Logic.{_⊎_, inl, inr, ⊎-elim}
 use lib.Pow.{pow-mono}
 use lib.Dec.{ltb}
-use lib.Count.{leadingZeros, leading-top}
+use lib.Count.{leadingZeros, leading-top, leading-le, leading-length}
 use lib.Arith.{bin-ind, half-le}
-use Rattle.integers.specs.Numbers.{pickN, logIn, log2}
+use Rattle.integers.specs.Numbers.{pickN, logIn, log2, Least}
 use Rattle.integers.proofs.Finite.{lt-or-ge}
 use borrow.Author.Tests.{lt-ltb, le-ltb}
 
@@ -61,3 +61,22 @@ log2-leading n h l =
     let a : log2 n < suc (t .0) = log2-below (suc (t .0)) n h (t .3) in
     let b : t .0 ≤ log2 n = ⊎-elim (λ p. absurd (not-le-of-lt (log2-upper n) (le-trans (pow-mono p) (t .2)))) (λ p. p) (lt-or-ge (log2 n) (t .0)) in
     omega (arith, t .1)
+
+-- ---- the length of a number in bits, by the zeros that the machine counts above its highest one
+pub leading-most : (n : ℕ) → n < 2 ^ 32 → leadingZeros 32 n ≤ 32
+leading-most n h = leading-le 32 n
+
+pub length-leading : (n : ℕ) → n < 2 ^ 32 → Least (λ k. n < 2 ^ k) (32 - leadingZeros 32 n)
+length-leading n h = go (leading-length 32 n h)
+  where
+    go : (m : ℕ) × (leadingZeros 32 n + m ≡ 32) × (n < 2 ^ m) × (2 ^ m ≤ 2 * n + 1) → Least (λ k. n < 2 ^ k) (32 - leadingZeros 32 n)
+    go (m, e, l, u) = subst (λ (x : ℕ). Least (λ k. n < 2 ^ k) x) is (record { holds = l; first = λ k f. first k f })
+      where
+        is : m ≡ 32 - leadingZeros 32 n
+        is = omega arith
+
+        first : (k : ℕ) → n < 2 ^ k → m ≤ k
+        first k f = elim (lt-or-ge k m) [
+          | inl s ↦ (let p : 2 ^ suc k ≤ 2 ^ m = pow-mono {i = suc k} {j = m} s in absurd (omega arith))
+          | inr s ↦ s
+        ]

@@ -249,3 +249,7 @@ ring5 q t x y z w v = holds (q (var 0) (var 1) (var 2) (var 3) (var 4)) (x ∷ y
 
 pub ring6 : (q : E → E → E → E → E → E → Eqn) → T (ok (q (var 0) (var 1) (var 2) (var 3) (var 4) (var 5))) → (x y z w v u : ℤ) → Holds (q (var 0) (var 1) (var 2) (var 3) (var 4) (var 5)) (x ∷ y ∷ z ∷ w ∷ v ∷ u ∷ [])
 ring6 q t x y z w v u = holds (q (var 0) (var 1) (var 2) (var 3) (var 4) (var 5)) (x ∷ y ∷ z ∷ w ∷ v ∷ u ∷ []) t
+
+pub ring11 : (x : E → E → E → E → E → E → E → E → E → E → E → Eqn) → T (ok (x (var 0) (var 1) (var 2) (var 3) (var 4) (var 5) (var 6) (var 7) (var 8) (var 9) (var 10)))
+    → (a b c d e f g h i j l : ℤ) → Holds (x (var 0) (var 1) (var 2) (var 3) (var 4) (var 5) (var 6) (var 7) (var 8) (var 9) (var 10)) (a ∷ b ∷ c ∷ d ∷ e ∷ f ∷ g ∷ h ∷ i ∷ j ∷ l ∷ [])
+ring11 x t a b c d e f g h i j l = holds (x (var 0) (var 1) (var 2) (var 3) (var 4) (var 5) (var 6) (var 7) (var 8) (var 9) (var 10)) (a ∷ b ∷ c ∷ d ∷ e ∷ f ∷ g ∷ h ∷ i ∷ j ∷ l ∷ []) t

@@ -15,7 +15,7 @@ use Rattle.integers.specs.Numbers.{oddZ, halfZ}
 use Rattle.integers.proofs.Parts.{natAbs-+, natAbs-*, natAbs-neg}
 
 -- ---- by natAbs
-mag-le : (z : ℤ) → mag z ≤ natAbs z
+pub mag-le : (z : ℤ) → mag z ≤ natAbs z
 mag-le (pos n) = omega arith
 mag-le (negsuc n) = omega arith
 

@@ -18,7 +18,7 @@ use Rattle.integers.specs.Numbers.{Coprime}
 use Rattle.integers.proofs.Parts.{eq-to, parts-+, parts--, parts-*, natAbs-is, natAbs-*, natAbs-neg, eq-of-sub}
 use Rattle.integers.proofs.Order.{eq-by, z-sub, z-*, z-+}
 use Rattle.integers.proofs.Sizes.{abs--, abs-*}
-use Rattle.integers.proofs.Ring.{E, Eqn, ok, Holds, var, lit, #, neg, _⊕_, _⊗_, _⊖_, ring, ring1, ring2, ring3, ring4, ring6, _≔_}
+use Rattle.integers.proofs.Ring.{E, Eqn, ok, Holds, var, lit, #, neg, _⊕_, _⊗_, _⊖_, ring, ring1, ring2, ring3, ring4, ring6, _≔_, ring11}
 use Rattle.bits.specs.Bits.{value}
 use Rattle.fractions.specs.Pairs.{limit, Inside, Fits, Smallest, NoneFits, SameFraction}
 use Rattle.fractions.proofs.Same.{cancel, fits-same}
@@ -76,14 +76,6 @@ traced-room {A} {r₀} {r₁} {t₀} {t₁} h s = go (t₀ + r₀ / r₁ * t₁)
     go t m h = omega (arith, mul-le-mul-left t s)
 
 -- ---- the stop
--- to move down: integers
-holds : (x : Eqn) (ρ : List ℤ) → T (ok x) → Holds x ρ
-holds (e ≔ f) ρ t = ring e f ρ t
-
-ring11 : (x : E → E → E → E → E → E → E → E → E → E → E → Eqn) → T (ok (x (var 0) (var 1) (var 2) (var 3) (var 4) (var 5) (var 6) (var 7) (var 8) (var 9) (var 10)))
-    → (a b c d e f g h i j k : ℤ) → Holds (x (var 0) (var 1) (var 2) (var 3) (var 4) (var 5) (var 6) (var 7) (var 8) (var 9) (var 10)) (a ∷ b ∷ c ∷ d ∷ e ∷ f ∷ g ∷ h ∷ i ∷ j ∷ k ∷ [])
-ring11 x t a b c d e f g h i j k = holds (x (var 0) (var 1) (var 2) (var 3) (var 4) (var 5) (var 6) (var 7) (var 8) (var 9) (var 10)) (a ∷ b ∷ c ∷ d ∷ e ∷ f ∷ g ∷ h ∷ i ∷ j ∷ k ∷ []) t
-
 -- a pair that fits, by the two vectors (-r₀, t₀) and (r₁, t₁), which span all that fits
 record Spanned (T p q r₀ r₁ t₀ t₁ : ℤ) : Type 0 where
   c : ℤ

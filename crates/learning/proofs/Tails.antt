@@ -22,7 +22,7 @@ use Rattle.integers.proofs.Order.{eq-by, z-sub, z-*, z-+}
 use Rattle.integers.proofs.Sizes.{abs--}
 use Rattle.integers.proofs.Ring.{var, lit, #, neg, _⊕_, _⊗_, _⊖_, ring, ring2, ring5, _≔_}
 use Rattle.bits.specs.Bits.{Below, value, window}
-use Rattle.bits.proofs.Values.{value-more, value-less}
+use Rattle.bits.proofs.Values.{value-more, value-lt}
 use Rattle.fractions.specs.Pairs.{limit, Fits}
 use Rattle.fractions.proofs.Same.{cancel}
 use Rattle.learning.specs.Steps.{Carried, Whole}
@@ -69,7 +69,7 @@ value-61 bytes low = sum (window bytes 0 32) (window bytes 32 29) (value-more by
     sum a b e f g = omega arith
 
 pub value-61-lt : (bytes : List ℕ) → Below 256 bytes → value bytes 61 < 2 ^ 61
-value-61-lt bytes low = value-less bytes 61 low
+value-61-lt bytes low = value-lt bytes 61
 
 -- ---- carrying the rest along
 pub carried-none : (bytes : List ℕ) (p : ℤ) (q : ℕ) → natAbs p ≤ limit → Carried bytes 0 p q p

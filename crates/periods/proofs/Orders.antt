@@ -8,7 +8,7 @@ use native.Mathlib.Decide.{ℕ-discrete, map-dec}
 use lib.Pow.{pow-add, pow-pos}
 use Rattle.integers.specs.Numbers.{Least, Coprime}
 use Rattle.integers.proofs.Finite.{least, le-or-gt, Twice, pigeon}
-use Rattle.integers.proofs.Coprime.{quot, mod-drop, euclid}
+use Rattle.integers.proofs.Coprime.{quot, mod-drop, euclid, two-cancel}
 use Rattle.integers.proofs.Modulo.{cong-of, mul-mod-l}
 use Rattle.periods.specs.Orders.{UnitPower, Order}
 
@@ -61,26 +61,6 @@ order-multiple q T t r = (
     go : (s : ℕ) → s < T → 2 ^ s % q ≡ 1 % q → s ≡ 0
     go zero a e = refl
     go (suc s) a e = let f : ⊥ = omega (arith, r .first (suc s) (record { some = omega arith; one = e })) in absurd f
-
--- ---- two is coprime to an odd q, so that factors of two cancel
--- to move down: integers
-two-coprime : (q : ℕ) → q % 2 ≡ 1 → Coprime q 2
-two-coprime q o zero h k = let f : ⊥ = omega (arith, mod-zero 2, k) in absurd f
-two-coprime q o (suc zero) h k = refl
-two-coprime q o (suc (suc zero)) h k = let f : ⊥ = omega arith in absurd f
-two-coprime q o (suc (suc (suc d))) h k = let f : ⊥ = omega (arith, mod-eq-of-lt (two d), k) in absurd f
-  where
-    two : (d : ℕ) → 2 < suc (suc (suc d))
-    two d = omega arith
-
-pub two-cancel : (q i n : ℕ) → q % 2 ≡ 1 → (n * 2 ^ i) % q ≡ 0 → n % q ≡ 0
-two-cancel q zero n o h = ap (λ m. m % q) (sym (mul-one n)) ∙ h
-two-cancel q (suc i) n o h =
-    two-cancel q i n o
-    (euclid q 2 (n * 2 ^ i) (omega arith) (two-coprime q o) (ap (λ m. m % q) (alg n (2 ^ i) (2 ^ suc i) (omega arith)) ∙ h))
-  where
-    alg : (n P Q : ℕ) → Q ≡ 2 * P → n * P * 2 ≡ n * Q
-    alg n P Q e = omega (arith, ap (λ (m : ℕ). n * m) e)
 
 power-some : (q i : ℕ) → q % 2 ≡ 1 → 1 < q → 1 ≤ 2 ^ i % q
 power-some q i o l = elim (ℕ-discrete (2 ^ i % q) 0) [

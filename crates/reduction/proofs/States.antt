@@ -17,15 +17,7 @@ use Rattle.reduction.specs.Reduced.{Reduced, big, Pick, fst, snd, Turned
 use Rattle.reduction.proofs.Vectors.{fit-of}
 use Rattle.reduction.proofs.Keys.{Before, before-of, before-iff, no-larger}
 use Rattle.reduction.proofs.Turns.{extend-reduced, side-even}
-
--- to move down: bits
-bit-le : (bytes : List ℕ) (i : ℕ) → bitAt bytes i ≤ 1
-bit-le bytes i = omega arith
-
-pub value-lt : (bytes : List ℕ) (k : ℕ) → value bytes k < 2 ^ k
-unfolding value
-value-lt bytes zero = omega arith
-value-lt bytes (suc k) = omega (arith, value-lt bytes k, pow-succ' 2 k, mul-le-mul-right (2 ^ k) (bit-le bytes k))
+use Rattle.bits.proofs.Values.{value-lt}
 
 -- ---- g is least
 module _ {M : ℕ} {A T : ℤ} {f g : Vect} (R : Reduced M A T f g) (p q t : ℤ) (odd : Odd q) (fits : A *ℤ q -ℤ p ≡ T *ℤ t) where

@@ -16,7 +16,7 @@ use Rattle.fractions.specs.Pairs.{Inside, Lowest}
 use Rattle.fractions.specs.Answers.{Decides}
 use Rattle.fractions.specs.Expansion.{digitsTo}
 use Rattle.fractions.specs.declared.Fraction.{Fraction}
-use Rattle.fractions.proofs.Lowest.{lowest-unique}
+use Rattle.fractions.proofs.Lowest.{lowest-unique, inside-lowest}
 use Rattle.registers.specs.Registers.{Valid, Load, cellCount, numOf, outTo}
 use Rattle.registers.specs.Answers.{Steps, stepped, stepNumber, stepBit, stepRegister, Loads, loaded, wide, loadNumber, loadRegister, ReadsBack, pair, readNumber, readP, readQ, Sheets, sheet, sheetNumber, sheetCells, sheetBits}
 use Rattle.registers.specs.Answers as A
@@ -31,7 +31,7 @@ use Rattle.registers.specs.declared.StorageSheet.{StorageSheet}
 use Rattle.registers.specs.declared.StorageSheet.the-variants as Sheet
 use Rattle.registers.proofs.States.{emits}
 use Rattle.registers.proofs.Loading as Rule
-use Rattle.registers.proofs.Reading.{inside-lowest, digits-same}
+use Rattle.fractions.proofs.Expansion.{digits-same}
 
 -- ---- valid or not
 pub valid-unique : (g : Register) (r s : Bool) → Decides (Valid g) r → Decides (Valid g) s → r ≡ s

@@ -10,25 +10,6 @@ use mathlib.Core.Logic.{inl, inr}
 use Rattle.integers.specs.Numbers.{Least}
 use Rattle.integers.proofs.Finite.{lt-or-ge}
 
--- to move down: integers
-pub leading-most : (n : ℕ) → n < 2 ^ 32 → leadingZeros 32 n ≤ 32
-leading-most n h = leading-le 32 n
-
-pub length-leading : (n : ℕ) → n < 2 ^ 32 → Least (λ k. n < 2 ^ k) (32 - leadingZeros 32 n)
-length-leading n h = go (leading-length 32 n h)
-  where
-    go : (m : ℕ) × (leadingZeros 32 n + m ≡ 32) × (n < 2 ^ m) × (2 ^ m ≤ 2 * n + 1) → Least (λ k. n < 2 ^ k) (32 - leadingZeros 32 n)
-    go (m, e, l, u) = subst (λ (x : ℕ). Least (λ k. n < 2 ^ k) x) is (record { holds = l; first = λ k f. first k f })
-      where
-        is : m ≡ 32 - leadingZeros 32 n
-        is = omega arith
-
-        first : (k : ℕ) → n < 2 ^ k → m ≤ k
-        first k f = elim (lt-or-ge k m) [
-          | inl s ↦ (let p : 2 ^ suc k ≤ 2 ^ m = pow-mono {i = suc k} {j = m} s in absurd (omega arith))
-          | inr s ↦ s
-        ]
-
 -- a number that is not 0 has a digit that is set
 pub ones-some : (n : ℕ) → 1 ≤ n → 1 ≤ ones n
 ones-some = bin-ind (λ (n : ℕ). 1 ≤ n → 1 ≤ ones n) (λ h. absurd (not-suc-le-zero h)) step

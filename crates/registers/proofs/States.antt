@@ -9,7 +9,7 @@
 use mathlib.Core.Path.{_≡_, refl, sym, ap, ap₂, _∙_, subst}
 use Prim.Native.Nat.{ℕ, zero, suc, _+_, _-_, _*_, _/_, _%_, _^_, _≤_, _<_, min}
 use native.Mathlib.Omega.{arith}
-use native.Mathlib.Nat.{mod-one, mod-eq-of-lt, eq-of-mul-eq-mul-right, mul-le-mul-right}
+use native.Mathlib.Nat.{mod-one, mod-eq-of-lt, eq-of-mul-eq-mul-right, mul-le-mul-right, add-zero, add-suc, pow-suc}
 use lib.Pow.{pow-pos, pow-add, pow-mono}
 use lib.IntN.{ℤ, pos, negsuc, natAbs, _+ℤ_, _-ℤ_, _*ℤ_}
 use Rattle.integers.specs.Numbers.{oddZ}
@@ -108,3 +108,21 @@ pub numerator-small : (g : Register) → Valid g → natAbs (numOf g) < 2 ^ 61
 numerator-small g v =
     let p : 2 ^ (31 + cellCount (g .q)) ≤ 2 ^ 61 = pow-mono {j = 61} (omega (arith, facts g v .few)) in
     omega (arith, numerator-size g v)
+
+-- ---- n steps, then m more
+pub iter-add : (n m : ℕ) (g : Register) → iterOf (n + m) g ≡ iterOf m (iterOf n g)
+unfolding iterOf
+iter-add n zero g = rw (add-zero n)
+iter-add n (suc m) g = rw (add-suc n m) (ap nextOf (iter-add n m g))
+
+pub out-add : (n m : ℕ) (g : Register) → outTo (n + m) g ≡ outTo n g + 2 ^ n * outTo m (iterOf n g)
+unfolding outTo
+out-add n zero g = rw (add-zero n) (omega arith)
+out-add n (suc m) g = rw (add-suc n m, iter-add n m g, pow-add 2 n m) (omega (arith, out-add n m g))
+
+pub out-lt : (n : ℕ) (g : Register) → outTo n g < 2 ^ n
+unfolding outTo
+out-lt zero g = omega arith
+out-lt (suc n) g =
+    let b : emitted (iterOf n g) * 2 ^ n ≤ 1 * 2 ^ n = mul-le-mul-right (2 ^ n) (omega arith) in
+    rw (pow-suc 2 n) (omega (arith, out-lt n g))

@@ -18,7 +18,7 @@ use lib.IntN.{ℤ, pos, negsuc, natAbs, _+ℤ_, _*ℤ_}
 use lib.Signed.{mag}
 use Rattle.integers.specs.Numbers.{oddZ, halfZ, log2}
 use Rattle.integers.proofs.Log2.{log2-step, log2-below}
-use Rattle.integers.proofs.Sizes.{odd-lt, fits64}
+use Rattle.integers.proofs.Sizes.{odd-lt, fits64, mag-le}
 use Rattle.integers.proofs.Parts.{natAbs-+}
 use Rattle.bits.specs.Bits.{bitOf}
 use Rattle.fractions.specs.Pairs.{limit}
@@ -26,6 +26,7 @@ use Rattle.fractions.specs.Answers.{Decides}
 use Rattle.registers.specs.Inner.{tapsTo, overTo}
 use Rattle.registers.specs.Registers.{cellCount, Valid, sumBelow, tapSum, sumOf, nextOf, iterOf, tap, cell}
 use Rattle.registers.specs.declared.Register.{Register}
+use Rattle.fractions.proofs.Limits.{decides-le}
 
 pub record Facts (g : Register) : Type 0 where
   pub odd : g .q % 2 ≡ 1
@@ -129,28 +130,15 @@ unfolding iterOf
 iter-more n g = rw (add-one n)
 
 -- ---- what code tests
--- to move down: fractions, beside Decides
-pub decides-le : (a b : ℕ) → Decides (a ≤ b) (leb a b)
-decides-le a b = go (leb a b) (leb-true a b) (leb-false a b)
-  where
-    go : (t : Bool) → (t ≡ true → a ≤ b) → (t ≡ false → b < a) → Decides (a ≤ b) t
-    go true f g = f refl
-    go false f g = λ h. omega (arith, g refl)
-
 -- the last test decides, once the others have passed
 pub valid-tested : (g : Register) (b : Bool) → g .q % 2 ≡ 1 → g .q ≤ limit → g .cells < 2 ^ cellCount (g .q)
     → Decides (natAbs (g .memory) ≤ 2 ^ 30) b → Decides (Valid g) b
 valid-tested g true o m c d = record { odd = o; some = omega arith; q-most = m; cells = c; memory = d }
 valid-tested g false o m c d = λ v. d (v .memory)
 
--- to move down: integers (it is private there)
-pub mag-size : (z : ℤ) → mag z ≤ natAbs z
-mag-size (pos n) = omega arith
-mag-size (negsuc n) = omega arith
-
 -- what the machine reads back of a number at most 2^30
 pub back32 : (z : ℤ) → natAbs z ≤ 2 ^ 30 → toZ w32 (ofZ w32 z) ≡ z
-back32 z h = toZ-ofZ w32 z (record { sfits = omega (arith, mag-size z) })
+back32 z h = toZ-ofZ w32 z (record { sfits = omega (arith, mag-le z) })
 
 pub back64 : (z : ℤ) → natAbs z < 2 ^ 63 → toZ w64 (ofZ w64 z) ≡ z
 back64 z h = toZ-ofZ w64 z (fits64 z h)

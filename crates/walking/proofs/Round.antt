@@ -15,15 +15,15 @@ use lib.IntN.{ℤ, pos, natAbs, _+ℤ_, _-ℤ_, _*ℤ_}
 use Rattle.integers.proofs.Finite.{le-or-gt}
 use Rattle.integers.proofs.Parts.{up, down, eq-of, natAbs-is, natAbs-*, pos-*}
 use Rattle.integers.specs.Numbers.{Coprime}
-use Rattle.integers.proofs.Coprime.{quot, euclid, lowest}
+use Rattle.integers.proofs.Coprime.{quot, euclid, lowest, two-cancel}
 use Rattle.integers.proofs.Modulo.{cong-of}
 use Rattle.integers.proofs.Order.{eq-by, z-*, z-sub}
 use Rattle.integers.proofs.Ring.{_⊕_, _⊗_, _⊖_, ring3, ring6, _≔_}
 use Rattle.fractions.specs.Pairs.{Lowest}
 use Rattle.fractions.specs.Expansion.{nextNum, iterNum, digitsTo}
 use Rattle.fractions.proofs.Numerators.{step-cases, one-part, iter-add, expansion-splits, split-eq}
-use Rattle.fractions.proofs.Lowest.{part, Multiple, multiple, odd-left}
-use Rattle.periods.proofs.Orders.{power-one-iff, two-cancel}
+use Rattle.fractions.proofs.Lowest.{part, Multiple, multiple, odd-left, lowest-multiple, some-factor}
+use Rattle.periods.proofs.Orders.{power-one-iff}
 use Rattle.walking.specs.Inner.{dist}
 use Rattle.walking.proofs.LeadIn.{inside-parts, inside-stays}
 
@@ -162,33 +162,6 @@ shift-iff q m L p o = (there, back)
         ap (λ n. n % q) (sym (natAbs-* (pos m) p) ∙ ap natAbs g ∙ natAbs-* (pos q) t) ∙ mul-mod-right q (natAbs t)
 
 -- ---- q divides n p exactly where the denominator in lowest terms divides n
-pub lowest-multiple : {p : ℤ} {q : ℕ} {p' : ℤ} {q' : ℕ} → Lowest p q p' q' → Multiple p' q' p q
-lowest-multiple {p} {q} {p'} {q'} w = multiple p' q' p q (w .some) (w .lowest) (sym (w .same))
-
-some-factor : (q a m : ℕ) → 1 ≤ q → q ≡ a * m → 1 ≤ m
-some-factor q a zero h e = let f : ⊥ = omega arith in absurd f
-some-factor q a (suc m) h e = omega arith
-
--- to move down: fractions
-pub lowest-exists : (p : ℤ) (q : ℕ) → 1 ≤ q → (p' : ℤ) × (q' : ℕ) × Lowest p q p' q'
-lowest-exists p q s =
-    let l = lowest q (natAbs p) s in
-    let y = part (l .d) p (ap (λ n. n % l .d) (l .x-is) ∙ mul-mod-right (l .d) (l .k)) in
-    let d : 1 ≤ l .d = some-factor q (l .c) (l .d) s (l .q-is ∙ mul-comm (l .d) (l .c)) in
-    let k : natAbs (y .0) ≡ l .k = eq-of-mul-eq-mul-left (l .d) d (natAbs (y .0)) (l .k) (sym (y .1 .1) ∙ l .x-is) in (
-      y .0,
-      l .c,
-      record {
-        some = some-factor q (l .d) (l .c) s (l .q-is);
-        lowest = subst (λ n. Coprime (l .c) n) (sym k) (l .coprime);
-        same = ap (λ z. z *ℤ pos (l .c)) (y .1 .0) ∙ ring3 (λ d y c. d ⊗ y ⊗ c ≔ y ⊗ (d ⊗ c)) tt (pos (l .d)) (y .0) (pos (l .c))
-            ∙ ap (λ z. y .0 *ℤ z) (sym (pos-* (l .d) (l .c)) ∙ ap pos (sym (l .q-is)));
-      },
-    )
-
-pub lowest-odd : {p : ℤ} {q : ℕ} {p' : ℤ} {q' : ℕ} → Lowest p q p' q' → q % 2 ≡ 1 → q' % 2 ≡ 1
-lowest-odd {q} {q'} w o = let m = lowest-multiple w in odd-left q' (m .m) (ap (λ n. n % 2) (sym (m .q-is)) ∙ o)
-
 pub lowest-iff : {p : ℤ} {q : ℕ} {p' : ℤ} {q' : ℕ} (n : ℕ) → 1 ≤ q → Lowest p q p' q' → ((n * natAbs p) % q ≡ 0) ↔ (n % q' ≡ 0)
 lowest-iff {p} {q} {p'} {q'} n s w = (there, back)
   where

@@ -31,7 +31,8 @@ use Rattle.walking.specs.Inner.{dist, Enters}
 use Rattle.walking.specs.declared.Walked.{Walked}
 use Rattle.walking.specs.declared.Walked.the-variants.{Loop, Invalid, Past}
 use Rattle.walking.proofs.LeadIn.{outside-once, enters-exists, enters-within, inside-iff}
-use Rattle.walking.proofs.Round.{lowest-exists, lowest-odd, round-iff}
+use Rattle.walking.proofs.Round.{round-iff}
+use Rattle.fractions.proofs.Lowest.{lowest-exists, lowest-odd}
 
 pub loops-unique : {A : Type 0} {s : ℕ → A} {L T M U : ℕ} → Loops s L T → Loops s M U → (L ≡ M) × (T ≡ U)
 loops-unique {L} {T} {M} {U} a b =

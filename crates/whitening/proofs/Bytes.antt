@@ -17,30 +17,10 @@ use Rattle.fractions.specs.Expansion.{iterNum, digitsTo}
 use Rattle.registers.specs.Registers.{Valid, emitted, nextOf, iterOf, outTo, numOf}
 use Rattle.registers.specs.declared.Register.{Register}
 use Rattle.registers.proofs.Validity.{valid-iter, iter-q}
-use Rattle.registers.proofs.States.{numerator-iter, emits, state-unique, numerator-small}
+use Rattle.registers.proofs.States.{numerator-iter, emits, state-unique, numerator-small, iter-add, out-add, out-lt}
 use Rattle.whitening.specs.Whitening.{whiteOf}
 use Rattle.whitening.specs.Inner.{Offset, Inverse, Taken, Carries, mixAt, mixWord}
 use Rattle.whitening.proofs.Words.{offset-small, offset-unique}
-
--- to move down: registers
-pub iter-add : (n m : ℕ) (g : Register) → iterOf (n + m) g ≡ iterOf m (iterOf n g)
-unfolding iterOf
-iter-add n zero g = rw (add-zero n)
-iter-add n (suc m) g = rw (add-suc n m) (ap nextOf (iter-add n m g))
-
--- to move down: registers
-pub out-add : (n m : ℕ) (g : Register) → outTo (n + m) g ≡ outTo n g + 2 ^ n * outTo m (iterOf n g)
-unfolding outTo
-out-add n zero g = rw (add-zero n) (omega arith)
-out-add n (suc m) g = rw (add-suc n m, iter-add n m g, pow-add 2 n m) (omega (arith, out-add n m g))
-
--- to move down: registers
-pub out-lt : (n : ℕ) (g : Register) → outTo n g < 2 ^ n
-unfolding outTo
-out-lt zero g = omega arith
-out-lt (suc n) g =
-    let b : emitted (iterOf n g) * 2 ^ n ≤ 1 * 2 ^ n = mul-le-mul-right (2 ^ n) (omega arith) in
-    rw (pow-suc 2 n) (omega (arith, out-lt n g))
 
 unfoldable pub mixed : Register → List ℕ → ℕ → List ℕ
 mixed g l i = take i l ++ whiteOf (iterOf (8 * i) g) (drop i l)

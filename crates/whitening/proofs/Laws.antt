@@ -11,7 +11,7 @@ use mathlib.Core.List.{List, [], _∷_, _++_}
 use Prim.Native.Nat.{ℕ, zero, suc, _+_, _-_, _*_, _/_, _%_, _≤_, _<_}
 use native.Mathlib.Omega.{arith}
 use native.Mathlib.Nat.{div-add-mod'}
-use lib.Bits.{bitXor, differ, xor-step, xor-shr, xor-mod, xor-block}
+use lib.Bits.{bitXor, xor-block}
 use lib.IntN.{ℤ}
 use lib.ListN.{length, getD, length-append}
 use Rattle.bits.specs.Bits.{num, Below}
@@ -19,9 +19,9 @@ use Rattle.fractions.specs.Expansion.{iterNum, digitsTo}
 use Rattle.registers.specs.Registers.{Valid, iterOf, outTo, numOf}
 use Rattle.registers.specs.declared.Register.{Register}
 use Rattle.registers.proofs.Validity.{valid-iter, iter-q}
-use Rattle.registers.proofs.States.{numerator-iter, emits}
+use Rattle.registers.proofs.States.{numerator-iter, emits, iter-add, out-add, out-lt}
 use Rattle.whitening.specs.Whitening.{whiteOf, most, Whitens, whitened, invalid, long}
-use Rattle.whitening.proofs.Bytes.{iter-add, out-add, out-lt}
+use Rattle.bits.proofs.Bits.{xor-back}
 
 -- ---- one answer
 pub whitens-unique : (g : Register) (xs : List ℕ) (m n : ℕ) (h k : Register) (ys zs : List ℕ) → Whitens g xs m h ys → Whitens g xs n k zs
@@ -89,31 +89,6 @@ white-number g xs v b = go g xs b ∙ ap (bitXor (num 256 xs)) (emits (8 * lengt
         ∙ omega (arith, xor-block 8 n r x o (b 0) (out-lt 8 g), ap₂ bitXor s f)
 
 -- ---- twice
-differ-back : (d e : ℕ) → d < 2 → e < 2 → differ (bitXor d e) e ≡ d
-differ-back zero zero h k = refl
-differ-back zero (suc zero) h k = refl
-differ-back (suc zero) zero h k = refl
-differ-back (suc zero) (suc zero) h k = refl
-differ-back (suc (suc d)) e h k = let f : ⊥ = omega arith in absurd f
-differ-back zero (suc (suc e)) h k = let f : ⊥ = omega arith in absurd f
-differ-back (suc zero) (suc (suc e)) h k = let f : ⊥ = omega arith in absurd f
-
--- to move down: bits
-pub xor-back : (a k : ℕ) → bitXor (bitXor a k) k ≡ a
-xor-back a k = go (a + k) a k (omega arith) (omega arith)
-  where
-    go : (n a k : ℕ) → a ≤ n → k ≤ n → bitXor (bitXor a k) k ≡ a
-    go zero a k h l =
-        let e : a ≡ 0 = omega arith in
-        let f : k ≡ 0 = omega arith in
-        ap₂ (λ (x y : ℕ). bitXor (bitXor x y) y) e f ∙ sym e
-    go (suc n) a k h l =
-        xor-step (bitXor a k) k
-        ∙ ap₂ (λ (x y : ℕ). x * 2 + y)
-        (ap (λ (x : ℕ). bitXor x (k / 2)) (xor-shr a k 1) ∙ go n (a / 2) (k / 2) (omega arith) (omega arith))
-        (ap (λ (x : ℕ). differ x (k % 2)) (xor-mod a k 1) ∙ differ-back (a % 2) (k % 2) (omega arith) (omega arith))
-        ∙ div-add-mod' a 2
-
 pub white-twice : (g : Register) (xs : List ℕ) → whiteOf g (whiteOf g xs) ≡ xs
 unfolding whiteOf
 white-twice g [] = refl

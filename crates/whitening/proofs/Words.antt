@@ -1,4 +1,3 @@
--- to move down: fractions
 -- Digits of an expansion a word at a time: the numerator is carried as a natural number, and its next digits are its product with the inverse of q.
 --
 --   offset-is   an offset, in parts

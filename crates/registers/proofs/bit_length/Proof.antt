@@ -1,9 +1,9 @@
 -- `registers::bit_length` meets its contract: all 32 bits but the zeros above the highest one.
 use Prim.Native.Nat.{ℕ, suc, _+_, _*_, _^_, _≤_, _<_}
 use native.Mathlib.Omega.{arith}
-use Rattle.registers.proofs.Sheets.{length-leading, leading-most}
 use Rattle.registers.proofs.bit_length.Statement.{statement}
 use Rattle.registers.proofs.bit_length.Tie as tie
+use Rattle.integers.proofs.Log2.{leading-most, length-leading}
 
 sub-result : tie.Need-sub-result
 sub-result c = leading-most (c .args .n) (omega arith)

@@ -14,9 +14,9 @@ use Rattle.registers.specs.Registers.{Valid, numOf}
 use Rattle.registers.specs.Answers.{ReadsBack, pair, invalid, outside}
 use Rattle.registers.proofs.Validity.{facts, back64}
 use Rattle.registers.proofs.States.{numerator-small}
-use Rattle.registers.proofs.Reading.{lowest-inside}
 use Rattle.registers.proofs.read_back.Statement.{statement}
 use Rattle.registers.proofs.read_back.Tie as tie
+use Rattle.fractions.proofs.Lowest.{lowest-inside}
 
 is-valid-requires : tie.Need-is-valid-requires
 is-valid-requires c κs = search needs

@@ -12,10 +12,10 @@ use Rattle.registers.specs.Registers.{numOf}
 use Rattle.registers.proofs.States.{numerator-small}
 use Rattle.periods.proofs.Orders.{order-most}
 use Rattle.walking.specs.Inner.{Enters}
-use Rattle.walking.proofs.Round.{lowest-odd}
 use Rattle.walking.proofs.Walks.{walk-of}
 use Rattle.walking.proofs.way_of.Statement.{statement}
 use Rattle.walking.proofs.way_of.Tie as tie
+use Rattle.fractions.proofs.Lowest.{lowest-odd}
 
 is : (c : tie.After-numerator) → toZ w64 (ofZ w64 (c .numerator .result)) ≡ numOf (c .before .args .g)
 is c = toZ-ofZ w64 _ (record { sfits = c .numerator .ok }) ∙ c .numerator .ensures

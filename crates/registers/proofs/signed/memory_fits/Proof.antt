@@ -7,9 +7,9 @@ use lib.IntN.{natAbs}
 use mir.Syntax.{w64}
 use mir.ValLaws.{toZ-ofZ}
 use Rattle.fractions.specs.Answers.{Decides}
-use Rattle.registers.proofs.Validity.{decides-le}
 use Rattle.registers.proofs.signed.memory_fits.Statement.{statement}
 use Rattle.registers.proofs.signed.memory_fits.Tie as tie
+use Rattle.fractions.proofs.Limits.{decides-le}
 
 magnitude-requires : tie.Need-magnitude-requires
 magnitude-requires c κs = search needs

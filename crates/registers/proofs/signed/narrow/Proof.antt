@@ -3,12 +3,12 @@ use native.Mathlib.Omega.{arith}
 use mir.Syntax.{w32, w64}
 use mir.Val.{SFits}
 use mir.ValLaws.{toZ-ofZ}
-use Rattle.registers.proofs.Validity.{mag-size}
 use Rattle.registers.proofs.signed.narrow.Statement.{statement}
 use Rattle.registers.proofs.signed.narrow.Tie as tie
+use Rattle.integers.proofs.Sizes.{mag-le}
 
 fits : (c : tie.Start) → SFits w32 (c .args .m)
-fits c = record { sfits = omega (arith, mag-size (c .args .m)) }
+fits c = record { sfits = omega (arith, mag-le (c .args .m)) }
 
 cast-result : tie.Need-cast-result
 cast-result c = rw (toZ-ofZ w64 (c .args .m) (c .fits .m)) (fits c)
