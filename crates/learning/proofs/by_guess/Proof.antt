@@ -60,7 +60,7 @@ side-requires : tie.Need-side-requires
 side-requires c κs = c .before .before .euclid .ensures .small
 
 fits-requires : tie.Need-fits-requires
-fits-requires c κs = (c .before .before .before .before .before .before .pre .1 .few, in-limits c)
+fits-requires c κs = (omega (arith, c .before .before .before .before .before .before .pre .1 .few), in-limits c)
 
 fraction-requires : tie.Need-fraction-requires
 fraction-requires c κs = let i = in-limits (c .before .before) in (i .p-most, i .q-most)
