@@ -6,16 +6,15 @@
 --   learned-lowest    the answer is in lowest terms
 --   learned-settled   where 2 size² < 2^n, every pair inside the limits that fits and is no larger is this same pair
 --   learned-emits     the answer's expansion begins with the burst's bits
-use mathlib.Core.Path.{_≡_, refl, sym, ap, _∙_, subst}
+use mathlib.Core.Path.{_≡_, refl, sym, ap, subst}
 use mathlib.Core.List.{List}
 use Prim.Native.Nat.{ℕ, _+_, _*_, _%_, _^_, _≤_, _<_}
 use native.Mathlib.Omega.{arith}
 use lib.Pow.{pow-mono}
-use lib.IntN.{ℤ, pos, natAbs}
-use lib.ListN.{length}
+use lib.IntN.{ℤ, natAbs}
 use Rattle.bits.specs.Bits.{bitAt, value}
 use Rattle.bits.proofs.Values.{value-agree}
-use Rattle.fractions.specs.Pairs.{limit, Inside, Fits, size, Smallest, LowestTerms}
+use Rattle.fractions.specs.Pairs.{Inside, Fits, size, Smallest, LowestTerms}
 use Rattle.fractions.specs.Expansion.{digitAt, digitsTo}
 use Rattle.fractions.proofs.Order.{smallest-unique, smallest-lowest, smallest-settled, smallest-recovered}
 use Rattle.fractions.proofs.Expansion.{expansion-fits, fits-digits}
