@@ -11,7 +11,7 @@ use Rattle.integers.specs.Numbers.{Least}
 use Rattle.integers.proofs.Finite.{lt-or-ge}
 
 -- a number that is not 0 has a digit that is set
-pub ones-some : (n : ℕ) → 1 ≤ n → 1 ≤ ones n
+ones-some : (n : ℕ) → 1 ≤ n → 1 ≤ ones n
 ones-some = bin-ind (λ (n : ℕ). 1 ≤ n → 1 ≤ ones n) (λ h. absurd (not-suc-le-zero h)) step
   where
     step : (n : ℕ) → (1 ≤ n / 2 → 1 ≤ ones (n / 2)) → 1 ≤ n → 1 ≤ ones n
@@ -19,3 +19,6 @@ ones-some = bin-ind (λ (n : ℕ). 1 ≤ n → 1 ≤ ones n) (λ h. absurd (not-
       | inl l ↦ omega (arith, ones-step n)
       | inr g ↦ omega (arith, ones-step n, ih (omega arith))
     ]
+
+pub ones-next : (n k : ℕ) → 1 ≤ ones (n + suc k)
+ones-next n k = ones-some (n + suc k) (omega arith)

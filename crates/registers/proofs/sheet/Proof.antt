@@ -7,7 +7,7 @@ use Rattle.fractions.specs.Answers.{Decides}
 use Rattle.registers.specs.Registers.{Valid, cellCount}
 use Rattle.registers.specs.Answers.{Sheets, sheet, invalid}
 use Rattle.registers.proofs.Validity.{facts}
-use Rattle.registers.proofs.Sheets.{ones-some}
+use Rattle.registers.proofs.Sheets.{ones-next}
 use Rattle.registers.proofs.sheet.Statement.{statement}
 use Rattle.registers.proofs.sheet.Tie as tie
 
@@ -24,7 +24,7 @@ add-bit-length : tie.Need-add-bit-length
 add-bit-length c = omega (arith, facts _ (is-valid (c .before)) .small)
 
 sub-bit-length : tie.Need-sub-bit-length
-sub-bit-length c = ones-some (c .before .before .before .args .g .q + 1) (omega arith)
+sub-bit-length c = ones-next _ _
 
 bit-length-requires : tie.Need-bit-length-requires
 bit-length-requires c κs = search needs
