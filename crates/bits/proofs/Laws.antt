@@ -13,7 +13,7 @@ use lib.Pow.{pow-pos, pow-mono, pow-add}
 use lib.Dec.{ltb}
 use borrow.Author.Tests.{ltb-true, ltb-false, lt-ltb, le-ltb}
 use Rattle.bits.specs.Bits.{num, digits, Below}
-use Rattle.bits.specs.Adding.{WordFits, MoreFits}
+use Rattle.bits.specs.Inner.{WordFits, MoreFits}
 use Rattle.integers.proofs.Finite.{lt-or-ge}
 use Rattle.bits.proofs.Numbers.{num-append, num-split, num-set, num-lt, num-digits, digits-num, pow8}
 
@@ -27,11 +27,6 @@ ltb-same a b c d f g = go (ltb a b) (ltb c d) refl refl
     go false true p q = absurd (omega (arith, g (ltb-true c d q), ltb-false a b p))
 
 -- one byte of the test
-pub fit-big : (x n l : ℕ) → x < 256 → 8 ≤ l → ltb (x + 256 * n) (2 ^ l) ≡ ltb n (2 ^ (l - 8))
-fit-big x n l h k =
-    let e : 2 ^ l ≡ 256 * 2 ^ (l - 8) = ap (λ (m : ℕ). 2 ^ m) (omega arith) ∙ pow-add 2 8 (l - 8) in
-    ltb-same (x + 256 * n) (2 ^ l) n (2 ^ (l - 8)) (λ p. omega arith) (λ p. omega arith)
-
 pub pow-below : (l : ℕ) → l < 8 → 2 ^ l ≤ 128
 pow-below l k = pow-mono {i = l} {j = 7} (omega arith)
 
@@ -55,11 +50,41 @@ num-drop : (bytes : List ℕ) (i : ℕ) → i < length bytes → num 256 (drop i
 unfolding num
 num-drop bytes i h = rw (drop-cons bytes i 0 h, add-one i) refl
 
-pub left-big : (bytes : List ℕ) (count left i : ℕ) → Left bytes count left i → i < length bytes → getD bytes i 0 < 256 → 8 ≤ left → Left bytes count (left - 8) (i + 1)
-left-big bytes count left i g h b k = record {
-  within = omega arith;
-  same = sym (fit-big (getD bytes i 0) (num 256 (drop (i + 1) bytes)) left b k) ∙ ap (λ (n : ℕ). ltb n (2 ^ left)) (sym (num-drop bytes i h)) ∙ g .same;
-}
+pub below-take : (b : ℕ) (xs : List ℕ) (j : ℕ) → 0 < b → Below b xs → Below b (take j xs)
+below-take b xs zero h l i = h
+below-take b [] (suc j) h l i = h
+below-take b (x ∷ xs) (suc j) h l zero = l 0
+below-take b (x ∷ xs) (suc j) h l (suc i) = below-take b xs j h (λ k. l (suc k)) i
+
+-- where it begins: the whole bytes below the count do not decide
+pub left-start : (bytes : List ℕ) (count : ℕ) → Below 256 bytes → count / 8 < length bytes → Left bytes count (count % 8) (count / 8)
+left-start bytes count l h = record { within = omega arith; same = ltb-same (num 256 (drop k bytes)) (2 ^ r) (num 256 bytes) (2 ^ count) up down }
+  where
+    k : ℕ
+    k = count / 8
+
+    r : ℕ
+    r = count % 8
+
+    low : num 256 (take k bytes) < 256 ^ k
+    low = subst (λ (n : ℕ). num 256 (take k bytes) < 256 ^ n) (length-take-le k bytes (omega arith)) (num-lt 256 (take k bytes) (below-take 256 bytes k (omega arith) l))
+
+    whole : 2 ^ count ≡ 256 ^ k * 2 ^ r
+    whole = ap (λ (n : ℕ). 2 ^ n) (sym (div-add-mod count 8)) ∙ pow-add 2 (8 * k) r ∙ ap (λ (n : ℕ). n * 2 ^ r) (sym (pow8 k))
+
+    split : num 256 bytes ≡ num 256 (take k bytes) + 256 ^ k * num 256 (drop k bytes)
+    split = num-split 256 bytes k (omega arith)
+
+    up : num 256 (drop k bytes) < 2 ^ r → num 256 bytes < 2 ^ count
+    up p = omega (arith, low, whole, split, mul-le-mul-left (256 ^ k) p)
+
+    down : num 256 bytes < 2 ^ count → num 256 (drop k bytes) < 2 ^ r
+    down p = lt-of-mul-lt-mul-left (256 ^ k) (omega (arith, whole, split))
+
+-- nothing stands past the count where the bytes end before it
+pub fits-short : (bytes : List ℕ) (count : ℕ) → Below 256 bytes → length bytes ≤ count / 8 → true ≡ ltb (num 256 bytes) (2 ^ count)
+fits-short bytes count l h =
+    sym (lt-ltb (num 256 bytes) (2 ^ count) (omega (arith, num-lt 256 bytes l, pow8 (length bytes), pow-mono {i = 8 * length bytes} {j = count} (omega arith))))
 
 pub left-small : (bytes : List ℕ) (count left i : ℕ) → Left bytes count left i → i < length bytes → left < 8 → getD bytes i 0 / 2 ^ left ≡ 0 → Left bytes count 0 (i + 1)
 left-small bytes count left i g h k z = record {
@@ -104,12 +129,6 @@ take-next : (more : List ℕ) (j : ℕ) → j < length more → num 256 (take (j
 unfolding num
 take-next more j h =
     rw (add-one j, take-suc more j 0 h, num-append 256 (take j more) (getD more j 0 ∷ []), length-take-le j more (omega arith)) (omega arith)
-
-pub below-take : (b : ℕ) (xs : List ℕ) (j : ℕ) → 0 < b → Below b xs → Below b (take j xs)
-below-take b xs zero h l i = h
-below-take b [] (suc j) h l i = h
-below-take b (x ∷ xs) (suc j) h l zero = l 0
-below-take b (x ∷ xs) (suc j) h l (suc i) = below-take b xs j h (λ k. l (suc k)) i
 
 num-none : (xs : List ℕ) → num 256 xs ≡ 0 → getD xs 0 0 ≡ 0
 unfolding num

@@ -1,3 +1,3 @@
--- The root of the specs: Bits has the words of the document, Adding what private functions ask of their callers.
+-- The root of the specs: Bits has the words of the document, Inner the words of private functions.
 pub mod Bits
-pub mod Adding
+pub mod Inner

@@ -5,7 +5,7 @@ ghost use Prim.Native.Nat.{ℕ, _+_, _*_, _<_, _≤_, _%_, _^_};
 ghost use lib.ListN.{length, getD, set};
 ghost use lib.Dec.{ltb};
 ghost use Rattle.bits.specs.Bits.{num, digits, bitAt, window};
-ghost use Rattle.bits.specs.Adding.{WordFits, MoreFits};
+ghost use Rattle.bits.specs.Inner.{fiveFrom, WordFits, MoreFits};
 
 pub fn wide(x: u8) -> usize
     ensures { λ r. ⌜ (r ≡ x) × (r < 256) ⌝ }
@@ -37,18 +37,41 @@ fn low(x: usize, m: usize) -> usize
     x % (1 << m)
 }
 
-// Bits i to i + m - 1, zeros past the end. Not an entry point: its callers in other crates show that m is small.
-pub fn bits_from(bytes: &[u8], i: usize, m: usize) -> usize
-    requires { ⌜ (i < 2 ^ 62) × (m ≤ 32) ⌝ }
-    ensures { λ r. ⌜ r ≡ window (now (bytes .entry)) i m ⌝ }
+// Five bytes from byte j on as one number, lowest first; they are there, so none is tested for.
+fn five_inside(bytes: &[u8], j: usize) -> usize
+    requires { ⌜ j + 5 ≤ length (now bytes) ⌝ }
+    ensures { λ r. ⌜ (r ≡ fiveFrom (now (bytes .entry)) j) × (r < 2 ^ 40) ⌝ }
 {
-    let j = i / 8;
+    let a = wide(bytes[j]);
+    let b = wide(bytes[j + 1]);
+    let c = wide(bytes[j + 2]);
+    let d = wide(bytes[j + 3]);
+    let e = wide(bytes[j + 4]);
+    a + 256 * b + 65536 * c + 16777216 * d + 4294967296 * e
+}
+
+// The same, zeros past the end.
+fn five_from(bytes: &[u8], j: usize) -> usize
+    requires { ⌜ j < 2 ^ 62 ⌝ }
+    ensures { λ r. ⌜ (r ≡ fiveFrom (now (bytes .entry)) j) × (r < 2 ^ 40) ⌝ }
+{
+    if j + 5 <= bytes.len() {
+        return five_inside(bytes, j);
+    }
     let a = byte_at(bytes, j);
     let b = byte_at(bytes, j + 1);
     let c = byte_at(bytes, j + 2);
     let d = byte_at(bytes, j + 3);
     let e = byte_at(bytes, j + 4);
-    let all = a + 256 * b + 65536 * c + 16777216 * d + 4294967296 * e;
+    a + 256 * b + 65536 * c + 16777216 * d + 4294967296 * e
+}
+
+// Bits i to i + m - 1, zeros past the end. Not an entry point: its callers in other crates show that m is small.
+pub fn bits_from(bytes: &[u8], i: usize, m: usize) -> usize
+    requires { ⌜ (i < 2 ^ 62) × (m ≤ 32) ⌝ }
+    ensures { λ r. ⌜ r ≡ window (now (bytes .entry)) i m ⌝ }
+{
+    let all = five_from(bytes, i / 8);
     let k = i % 8;
     low(all >> k, m)
 }
@@ -57,17 +80,18 @@ pub fn bits_from(bytes: &[u8], i: usize, m: usize) -> usize
 pub fn fits(bytes: &[u8], count: usize) -> bool
     ensures { λ r. ⌜ r ≡ ltb (num 256 (now (bytes .entry))) (2 ^ count) ⌝ }
 {
-    let mut left = count;
-    let mut i = 0;
+    // no bit of the bytes before this one is at or past the count
+    let from = count / 8;
+    if bytes.len() <= from {
+        return true;
+    }
+    let mut left = count % 8;
+    let mut i = from;
     while i < bytes.len() {
-        if left < 8 {
-            if wide(bytes[i]) >> left != 0 {
-                return false;
-            }
-            left = 0;
-        } else {
-            left -= 8;
+        if wide(bytes[i]) >> left != 0 {
+            return false;
         }
+        left = 0;
         i += 1;
     }
     true

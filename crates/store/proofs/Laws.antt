@@ -14,7 +14,7 @@ use Rattle.records.proofs.Cond.{yes, no}
 use lib.Dec.{ltb, leb, eqb}
 use borrow.Author.Tests.{ltb-true, ltb-false, leb-true, leb-false, lt-ltb, le-ltb, le-leb, lt-leb, eq-eqb, eqb-true}
 use Rattle.bits.specs.Bits.{num, digits, Below}
-use Rattle.bits.specs.Adding.{MoreFits}
+use Rattle.bits.specs.Inner.{MoreFits}
 use Rattle.bits.proofs.Numbers.{num-append, num-split, num-lt, num-digits, digits-num, length-digits, pow8}
 use Rattle.store.specs.Places.{countOf}
 use Rattle.records.specs.Block.{bytesFor}

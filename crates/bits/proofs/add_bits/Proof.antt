@@ -4,7 +4,7 @@ use native.Mathlib.Omega.{arith}
 use borrow.Author.Needs.{needs}
 use lib.ListN.{length}
 use Rattle.bits.specs.Bits.{num, Below}
-use Rattle.bits.specs.Adding.{WordFits}
+use Rattle.bits.specs.Inner.{WordFits}
 use Rattle.bits.proofs.Laws.{Added, word-fits, added-more, added-all, none-yet, shifted}
 use Rattle.bits.proofs.add_bits.Statement.{statement}
 use Rattle.bits.proofs.add_bits.Tie as tie

@@ -1,5 +1,6 @@
--- What adding bits to bytes asks of its callers; no public contract of another crate rests on it.
+-- Words of private functions, and what adding bits to bytes asks of its callers; no contract of an entry point rests on them.
 --
+--   fiveFrom bytes j          the number of the five bytes from byte j on, zeros past the end
 --   WordFits bytes i w        a word of two bytes added at byte i stays inside the bytes there
 --   MoreFits bytes have more  the bytes hold `have` bits, and have room for the bits of `more` past them
 use Prim.Native.Nat.{ℕ, _+_, _*_, _%_, _^_, _≤_, _<_}
@@ -7,6 +8,9 @@ use mathlib.Core.Path.{_≡_}
 use mathlib.Core.List.{List}
 use lib.ListN.{length, getD}
 use Rattle.bits.specs.Bits.{num}
+
+abbrev pub fiveFrom : List ℕ → ℕ → ℕ
+fiveFrom bytes j = getD bytes j 0 + 256 * getD bytes (j + 1) 0 + 65536 * getD bytes (j + 2) 0 + 16777216 * getD bytes (j + 3) 0 + 4294967296 * getD bytes (j + 4) 0
 
 pub record WordFits (bytes : List ℕ) (i w : ℕ) : Type 0 where
   pub inside : i < length bytes
