@@ -30,7 +30,8 @@ mod digits; // digits.rt: the digits of an expansion, one by one
 mod signed; // signed.rt: the few operations on signed numbers
 mod sums; // sums.rt: the sums over the taps
 
-// q, the cells a_0 to a_(r-1) as a number with a_0 lowest, and the memory.
+// q, the cells a_0 to a_(r-1) as a number with a_0 lowest, and the memory. C's callers have the same struct.
+#[repr(C)]
 pub struct Register {
     pub q: u32,
     pub cells: u32,
