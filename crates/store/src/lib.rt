@@ -4,9 +4,9 @@ ghost use mathlib.Core.Bool.{true};
 ghost use Prim.Native.Nat.{ℕ, _+_, _-_, _*_, _<_, _≤_};
 ghost use lib.ListN.{length};
 ghost use Rattle.records.specs.Block.{meters, parse};
-ghost use Rattle.store.specs.Places.{placeSize, mostBits, placeAt, countOf, isPlace, isStore, bitsOf, encodeAll};
+ghost use Rattle.store.specs.Places.{placeSize, mostBits, placeAt, countOf, isPlace, isStore, bitsOf, burst, encodeAll};
 ghost use Rattle.store.specs.Taking.{roomOf, appendAll, takeOf, numberOf, placeOf};
-ghost use Rattle.store.specs.ByMeter.{LearnsMeter, meterNumber, meterP, meterQ};
+ghost use Rattle.store.specs.ByMeter.{Asked, LearnsMeter, meterNumber, meterP, meterQ};
 ghost use Rattle.store.specs.Appending.{PlaceFits, appended};
 
 // The bytes of a place, and where its count and its bits stand in it.
@@ -218,4 +218,12 @@ pub fn learn_meter(store: &[u8], meter: u32) -> ByMeter
         learning::Learned::TooFewBytes => ByMeter::NoneInside,
         learning::Learned::NoneInside => ByMeter::NoneInside,
     }
+}
+
+// The number of bits of a meter's place. Not an entry point: its callers in other crates show that the store keeps the rules and has the meter.
+pub fn bit_count(store: &[u8], meter: u32) -> u32
+    requires { ⌜ Asked (now store) meter ⌝ }
+    ensures { λ r. ⌜ r ≡ length (burst (now (store .entry)) meter) ⌝ }
+{
+    count_of(store, place_at(meter as usize)) as u32
 }
