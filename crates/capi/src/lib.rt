@@ -167,11 +167,11 @@ pub extern "C" fn cj_load(p: i32, q: u32) -> Loaded
     ensures { λ r. ⌜ Loads p q (r .refusal) (registerOf (r .q) (r .cells) (r .memory)) ⌝ }
 {
     match registers::load(p, q) {
-        registers::Loaded::Into(x) => Loaded {
+        registers::Loaded::Into(g) => Loaded {
             refusal: 0,
-            q: x.q,
-            cells: x.cells,
-            memory: x.memory,
+            q: g.q,
+            cells: g.cells,
+            memory: g.memory,
         },
         registers::Loaded::Outside => no_register(4),
         registers::Loaded::Wide => no_register(8),
@@ -184,19 +184,19 @@ pub extern "C" fn cj_step(r: Register) -> Stepped
     ensures { λ x. ⌜ Steps r (x .refusal) (x .bit) (registerOf (x .q) (x .cells) (x .memory)) ⌝ }
 {
     match registers::step(r) {
-        registers::Stepped::Next(bit, x) => Stepped {
+        registers::Stepped::Next(bit, next) => Stepped {
             refusal: 0,
             bit: bit,
-            q: x.q,
-            cells: x.cells,
-            memory: x.memory,
+            q: next.q,
+            cells: next.cells,
+            memory: next.memory,
         },
-        registers::Stepped::Invalid(x) => Stepped {
+        registers::Stepped::Invalid(same) => Stepped {
             refusal: 5,
             bit: 0,
-            q: x.q,
-            cells: x.cells,
-            memory: x.memory,
+            q: same.q,
+            cells: same.cells,
+            memory: same.memory,
         },
     }
 }

@@ -2,6 +2,8 @@
 --
 --   valid-unique, step-unique, load-unique, read-back-unique, sheet-unique
 --                    any two results that meet the contract of one of the public functions are equal
+--   steps-same, loads-same, reads-same, sheets-same
+--                    the same of the numbers that the relations are between
 --   load-emits       demand 2: the register loaded from a pair, stepped n times, emits the first n bits of p/q, for every n
 --   load-numerator   its numerator is p
 --   load-read-back   reading back a loaded pair gives its lowest terms, and is not refused
@@ -41,7 +43,7 @@ valid-unique g false true h k = absurd (h k)
 valid-unique g false false h k = refl
 
 -- ---- step
-steps-same : {g : Register} {m n b c : ℕ} {x y : Register} → Steps g m b x → Steps g n c y → (m ≡ n) × (b ≡ c) × (x ≡ y)
+pub steps-same : {g : Register} {m n b c : ℕ} {x y : Register} → Steps g m b x → Steps g n c y → (m ≡ n) × (b ≡ c) × (x ≡ y)
 steps-same (stepped v) (stepped w) = (refl, refl, refl)
 steps-same (stepped v) (A.Steps.invalid w) = absurd (w v)
 steps-same (A.Steps.invalid v) (stepped w) = absurd (v w)
@@ -54,7 +56,7 @@ step-unique g (Step.Invalid x) (Step.Next c y) h k = absurd (omega (arith, steps
 step-unique g (Step.Invalid x) (Step.Invalid y) h k = ap Step.Invalid (steps-same h k .2)
 
 -- ---- load
-loads-same : {p : ℤ} {q m n : ℕ} {x y : Register} → Loads p q m x → Loads p q n y → (m ≡ n) × (x ≡ y)
+pub loads-same : {p : ℤ} {q m n : ℕ} {x y : Register} → Loads p q m x → Loads p q n y → (m ≡ n) × (x ≡ y)
 loads-same {p} {q} (loaded i a f) (loaded j b g) = (refl, Rule.load-unique p q _ _ a b)
 loads-same (loaded i a f) (A.outside j) = absurd (j i)
 loads-same {p} {q} (loaded i a f) (wide g j b e) = absurd (omega (arith, f, e, ap (λ (x : Register). natAbs (x .memory)) (Rule.load-unique p q _ _ a b)))
@@ -83,7 +85,7 @@ pub load-emits : (n : ℕ) (p : ℤ) (q : ℕ) (g : Register) → Loads p q 0 g 
 load-emits n p q g (loaded i l m) = emits n g (Rule.load-valid p q g i l m) ∙ ap₂ (λ (x : ℕ) (z : ℤ). digitsTo x n z) (l .q-is) (Rule.load-numerator p q g l)
 
 -- ---- read back
-reads-same : {g : Register} {m n q q' : ℕ} {p p' : ℤ} → ReadsBack g m p q → ReadsBack g n p' q' → (m ≡ n) × (p ≡ p') × (q ≡ q')
+pub reads-same : {g : Register} {m n q q' : ℕ} {p p' : ℤ} → ReadsBack g m p q → ReadsBack g n p' q' → (m ≡ n) × (p ≡ p') × (q ≡ q')
 reads-same {g} {q} {q'} {p} {p'} (pair v a i) (pair w b j) = let e = lowest-unique (numOf g) (g .q) p q p' q' (v .some) a b in (refl, e .0, e .1)
 reads-same (pair v a i) (A.ReadsBack.invalid w) = absurd (w v)
 reads-same {g} {q} {p} (pair v a i) (A.ReadsBack.outside p' q' w b j) =
@@ -122,7 +124,7 @@ read-back-emits n g h p q (pair v k i) l =
     load-emits n p q h l ∙ digits-same n p q (numOf g) (g .q) (i .odd) (v .odd) (sym (k .same)) ∙ sym (emits n g v)
 
 -- ---- sheet
-sheets-same : {g : Register} {m n a b c d : ℕ} → Sheets g m a b → Sheets g n c d → (m ≡ n) × (a ≡ c) × (b ≡ d)
+pub sheets-same : {g : Register} {m n a b c d : ℕ} → Sheets g m a b → Sheets g n c d → (m ≡ n) × (a ≡ c) × (b ≡ d)
 sheets-same (sheet v a) (sheet w b) = (refl, refl, least-unique a b)
 sheets-same (sheet v a) (A.Sheets.invalid w) = absurd (w v)
 sheets-same (A.Sheets.invalid v) (sheet w b) = absurd (v w)

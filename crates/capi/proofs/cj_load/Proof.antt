@@ -25,8 +25,8 @@ told c = rw (toZ-ofZ w32 (c .before .args .p) (c .before .fits .p)) at (c .load 
 load-requires : tie.Need-load-requires
 load-requires c κs = search needs
 
-enum-known-x : tie.Need-enum-known-x
-enum-known-x c = search needs
+enum-known-g : tie.Need-enum-known-g
+enum-known-g c = search needs
 
 enum-told : tie.Need-enum-told
 enum-told c = search needs
@@ -41,7 +41,7 @@ no-register-requires-2 : tie.Need-no-register-requires-2
 no-register-requires-2 c κs = search needs
 
 returns : tie.Need-returns
-returns c = rw (toZ-ofZ w32 _ (record { sfits = c .struct-told .given .1 .1 .0 .1 })) (subst (Says _ _) (c .before .before .x .given .1) (told (c .before .before .before .before)))
+returns c = rw (toZ-ofZ w32 _ (record { sfits = c .struct-told .given .1 .1 .0 .1 })) (subst (Says _ _) (c .before .before .g .given .1) (told (c .before .before .before .before)))
 
 returns-2 : tie.Need-returns-2
 returns-2 c = subst (Flat _ _) (sym (c .no-register .ensures)) (subst (Says _ _) (c .before .enum-told .given .1) (told (c .before .before .before)))
@@ -54,7 +54,7 @@ cj-load-spec =
     tie.close
     (tie.spec
     load-requires
-    enum-known-x
+    enum-known-g
     enum-told
     no-register-requires
     enum-told-2

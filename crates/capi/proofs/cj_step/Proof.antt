@@ -19,14 +19,14 @@ step-requires c κs = search needs
 enum-known-bit : tie.Need-enum-known-bit
 enum-known-bit c = search needs
 
-enum-known-x : tie.Need-enum-known-x
-enum-known-x c = search needs
+enum-known-same : tie.Need-enum-known-same
+enum-known-same c = search needs
 
 returns : tie.Need-returns
 returns c = rw (toZ-ofZ w32 _ (record { sfits = c .struct-told .given .1 .1 .0 .1 })) (subst (Says _) (c .before .before .bit .given .1) (c .before .before .before .before .step .ensures))
 
 returns-2 : tie.Need-returns-2
-returns-2 c = rw (toZ-ofZ w32 _ (record { sfits = c .struct-told2 .given .1 .1 .0 .1 })) (subst (Says _) (c .before .before .x .given .1) (c .before .before .before .before .step .ensures))
+returns-2 c = rw (toZ-ofZ w32 _ (record { sfits = c .struct-told2 .given .1 .1 .0 .1 })) (subst (Says _) (c .before .before .same .given .1) (c .before .before .before .before .step .ensures))
 
 pub cj-step-spec : {M : Type 1} → statement M
-cj-step-spec = tie.close (tie.spec step-requires enum-known-bit enum-known-x returns returns-2)
+cj-step-spec = tie.close (tie.spec step-requires enum-known-bit enum-known-same returns returns-2)

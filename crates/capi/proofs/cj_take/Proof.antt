@@ -1,8 +1,6 @@
 -- `capi::cj_take` meets its contract: number and place are those of the answer of `take`, and a place is at most 16,384.
-use mathlib.Core.Path.{_≡_, sym, ap, _∙_, subst}
-use Prim.Native.Nat.{ℕ, _≤_}
+use mathlib.Core.Path.{ap, _∙_}
 use native.Mathlib.Omega.{arith}
-use Rattle.records.specs.Block.{blockBytes}
 use Rattle.store.specs.Taking.{numberOf, placeOf}
 use Rattle.store.proofs.Positions.{take-place}
 use borrow.Author.Needs.{needs}

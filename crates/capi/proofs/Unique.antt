@@ -1,0 +1,90 @@
+-- Each contract determines the answer: any two flat answers that meet it are equal. Of `cj_whiten` that is `whitens-unique` itself.
+--
+--   learn-unique, learn-meter-unique, read-back-unique, load-unique, step-unique, walk-unique, sheet-unique, period-unique,
+--   output-word-unique, take-unique
+use mathlib.Core.Path.{_≡_, refl, sym, _∙_}
+use mathlib.Core.List.{List}
+use Prim.Native.Nat.{ℕ}
+use native.Mathlib.Omega.{arith}
+use lib.IntN.{ℤ}
+use Rattle.integers.proofs.Finite.{least-unique}
+use Rattle.fractions.specs.Answers.{Outputs}
+use Rattle.fractions.proofs.Expansion.{outputs-unique}
+use Rattle.learning.specs.Learning.{Learns}
+use Rattle.learning.proofs.Laws.{learns-unique}
+use Rattle.periods.specs.Answers.{Periods, entry, outside}
+use Rattle.registers.specs.declared.Register.{Register}
+use Rattle.registers.specs.Answers.{Steps, Loads, ReadsBack, Sheets}
+use Rattle.registers.proofs.Answers.{steps-same, loads-same, reads-same, sheets-same}
+use Rattle.store.specs.ByMeter.{LearnsMeter}
+use Rattle.store.proofs.Learnt.{meter-unique}
+use Rattle.walking.specs.Walks.{Walks, walked, invalid, past}
+use Rattle.walking.proofs.Walks.{loops-unique}
+use Rattle.capi.specs.Flat.{registerOf, Takes}
+use Rattle.capi.specs.declared.Fraction.{Fraction}
+use Rattle.capi.specs.declared.Loaded.{Loaded}
+use Rattle.capi.specs.declared.Stepped.{Stepped}
+use Rattle.capi.specs.declared.Walked.{Walked}
+use Rattle.capi.specs.declared.Storage.{Storage}
+use Rattle.capi.specs.declared.Entry.{Entry}
+use Rattle.capi.specs.declared.Word.{Word}
+use Rattle.capi.specs.declared.Taken.{Taken}
+
+-- ---- pairs
+fraction-same : (r s : Fraction) → r .refusal ≡ s .refusal → r .p ≡ s .p → r .q ≡ s .q → r ≡ s
+fraction-same r s e f g = λ i. record { refusal = e i; p = f i; q = g i }
+
+pub learn-unique : (bytes : List ℕ) (count : ℕ) (r s : Fraction) → Learns bytes count (r .refusal) (r .p) (r .q) → Learns bytes count (s .refusal) (s .p) (s .q) → r ≡ s
+learn-unique bytes count r s h k = let e = learns-unique bytes count _ _ _ _ _ _ h k in fraction-same r s (e .0) (e .1) (e .2)
+
+pub learn-meter-unique : (store : List ℕ) (meter : ℕ) (r s : Fraction) → LearnsMeter store meter (r .refusal) (r .p) (r .q) → LearnsMeter store meter (s .refusal) (s .p) (s .q) → r ≡ s
+learn-meter-unique store meter r s h k = let e = meter-unique store meter _ _ _ _ _ _ h k in fraction-same r s (e .0) (e .1 .0) (e .1 .1)
+
+pub read-back-unique : (g : Register) (r s : Fraction) → ReadsBack g (r .refusal) (r .p) (r .q) → ReadsBack g (s .refusal) (s .p) (s .q) → r ≡ s
+read-back-unique g r s h k = let e = reads-same h k in fraction-same r s (e .0) (e .1) (e .2)
+
+-- ---- registers
+pub load-unique : (p : ℤ) (q : ℕ) (r s : Loaded) → Loads p q (r .refusal) (registerOf (r .q) (r .cells) (r .memory)) → Loads p q (s .refusal) (registerOf (s .q) (s .cells) (s .memory)) → r ≡ s
+load-unique p q r s h k = let e = loads-same h k in λ i. record { refusal = e .0 i; q = e .1 i .q; cells = e .1 i .cells; memory = e .1 i .memory }
+
+pub step-unique : (g : Register) (r s : Stepped) → Steps g (r .refusal) (r .bit) (registerOf (r .q) (r .cells) (r .memory)) → Steps g (s .refusal) (s .bit) (registerOf (s .q) (s .cells) (s .memory)) → r ≡ s
+step-unique g r s h k = let e = steps-same h k in λ i. record { refusal = e .0 i; bit = e .1 i; q = e .2 i .q; cells = e .2 i .cells; memory = e .2 i .memory }
+
+pub sheet-unique : (g : Register) (r s : Storage) → Sheets g (r .refusal) (r .cells) (r .«memory_bits») → Sheets g (s .refusal) (s .cells) (s .«memory_bits») → r ≡ s
+sheet-unique g r s h k = let e = sheets-same h k in λ i. record { refusal = e .0 i; cells = e .1 i; «memory_bits» = e .2 i }
+
+-- ---- walks
+-- to move down: walking
+walks-same : {g : Register} {a m n L T S L' T' S' : ℕ} → Walks g a m L T S → Walks g a n L' T' S' → (m ≡ n) × (L ≡ L') × (T ≡ T') × (S ≡ S')
+walks-same (walked v x e h) (walked w y f i) = let z = loops-unique x y in (refl, z .0, z .1, omega (arith, z .0, z .1))
+walks-same (walked v x e h) (invalid b) = absurd (b v)
+walks-same (walked v x e h) (past L T w y i) = let z = loops-unique x y in absurd (omega (arith, z .0, z .1))
+walks-same (invalid b) (walked v x e h) = absurd (b v)
+walks-same (invalid b) (invalid c) = (refl, refl, refl, refl)
+walks-same (invalid b) (past L T w y i) = absurd (b w)
+walks-same (past L T w y i) (walked v x e h) = let z = loops-unique x y in absurd (omega (arith, z .0, z .1))
+walks-same (past L T w y i) (invalid b) = absurd (b w)
+walks-same (past L T w y i) (past L' T' v x h) = (refl, refl, refl, refl)
+
+pub walk-unique : (g : Register) (allowance : ℕ) (r s : Walked) → Walks g allowance (r .refusal) (r .lead) (r .period) (r .sum) → Walks g allowance (s .refusal) (s .lead) (s .period) (s .sum) → r ≡ s
+walk-unique g allowance r s h k = let e = walks-same h k in λ i. record { refusal = e .0 i; lead = e .1 i; period = e .2 i; sum = e .3 i }
+
+-- ---- the table, the output word, and taking a block
+-- to move down: periods
+periods-same : {q m n t u : ℕ} → Periods q m t → Periods q n u → (m ≡ n) × (t ≡ u)
+periods-same (entry i a) (entry j b) = (refl, least-unique a b)
+periods-same (entry i a) (outside n) = absurd (n i)
+periods-same (outside n) (entry i a) = absurd (n i)
+periods-same (outside n) (outside k) = (refl, refl)
+
+pub period-unique : (q : ℕ) (r s : Entry) → Periods q (r .refusal) (r .period) → Periods q (s .refusal) (s .period) → r ≡ s
+period-unique q r s h k = let e = periods-same h k in λ i. record { refusal = e .0 i; period = e .1 i }
+
+pub output-word-unique : (p : ℤ) (q : ℕ) (r s : Word) → Outputs p q (r .refusal) (r .word) → Outputs p q (s .refusal) (s .word) → r ≡ s
+output-word-unique p q r s h k = let e = outputs-unique p q _ _ _ _ h k in λ i. record { refusal = e .0 i; word = e .1 i }
+
+pub take-unique : (store block : List ℕ) (r s : Taken) (t u : List ℕ) → Takes store block (r .refusal) (r .place) t → Takes store block (s .refusal) (s .place) u → (r ≡ s) × (t ≡ u)
+take-unique store block r s t u h k =
+    let number = h .number-is ∙ sym (k .number-is) in
+    let place = h .place-is ∙ sym (k .place-is) in
+    (λ i. record { refusal = number i; place = place i }, h .store-is ∙ sym (k .store-is))
