@@ -2,20 +2,20 @@
 use Prim.Native.Nat.{ℕ, zero, suc, _+_, _*_, _-_, _/_, _%_, _^_, _≤_, _<_}
 use mathlib.Core.Path.{_≡_, refl, sym, ap, _∙_, subst}
 use mathlib.Core.Bool.{Bool, true, false}
-use mathlib.Core.List.{List, [], _∷_, _++_}
-use native.Mathlib.Nat.{pow-succ', pow-suc, pow-zero, mod-eq-of-lt, div-lt-iff-lt-mul, le-div-iff-mul-le, mul-le-mul-left, mul-le-mul-right, mul-lt-mul-of-pos-right, lt-of-mul-lt-mul-left, pow-le-pow-right, div-add-mod, add-mul-div-left, mod-add-div, mul-le-mul, add-zero}
-use mathlib.Core.Logic.{_⊎_, inl, inr, ⊎-elim}
+use mathlib.Core.List.{List, [], _∷_}
+use native.Mathlib.Nat.{mod-eq-of-lt, div-lt-iff-lt-mul, le-div-iff-mul-le, mul-le-mul-left, lt-of-mul-lt-mul-left, pow-le-pow-right, div-add-mod, mod-add-div, mul-le-mul, add-zero}
+use mathlib.Core.Logic.{_⊎_, ⊎-elim}
 use native.Mathlib.Omega.{arith}
 use native.Mathlib.Numerals.{add-one}
-use lib.ListN.{length, take, drop, getD, set, List·getD-eq-default, drop-of-length-le, length-set}
-use lib.Seq.{drop-cons, take-suc, length-take-le, getD-take, getD-drop, take-all, getD-set-other}
+use lib.ListN.{length, take, drop, getD, set, drop-of-length-le, length-set}
+use lib.Seq.{drop-cons, take-suc, length-take-le, getD-drop, take-all, getD-set-other}
 use lib.Pow.{pow-pos, pow-mono, pow-add}
 use lib.Dec.{ltb}
 use borrow.Author.Tests.{ltb-true, ltb-false, lt-ltb, le-ltb}
 use Rattle.bits.specs.Bits.{num, digits, Below}
 use Rattle.bits.specs.Inner.{WordFits, MoreFits}
 use Rattle.integers.proofs.Finite.{lt-or-ge}
-use Rattle.bits.proofs.Numbers.{num-append, num-split, num-set, num-lt, num-digits, digits-num, pow8}
+use Rattle.bits.proofs.Numbers.{num-append, num-split, num-set, num-lt, digits-num, pow8}
 
 pub ltb-same : (a b c d : ℕ) → (a < b → c < d) → (c < d → a < b) → ltb a b ≡ ltb c d
 ltb-same a b c d f g = go (ltb a b) (ltb c d) refl refl

@@ -1,10 +1,9 @@
 -- One law for each fact on digits and numbers, over the base.
 use Prim.Native.Nat.{ℕ, zero, suc, _+_, _*_, _-_, _/_, _%_, _^_, _≤_, _<_}
-use mathlib.Core.Path.{_≡_, refl, sym, ap, _∙_, subst}
+use mathlib.Core.Path.{_≡_, refl, sym, ap, _∙_}
 use mathlib.Core.List.{List, [], _∷_, _++_}
 use native.Mathlib.Nat.{pow-succ', pow-suc, pow-zero, mod-add-div, mod-lt, mod-eq-of-lt, div-eq-of-lt, add-mul-mod-self-left, add-mul-div-left, div-lt-iff-lt-mul, mul-le-mul-left, div-div-eq-div-mul, div-one, zero-add}
 use lib.Pow.{pow-add}
-use native.Mathlib.Numerals.{add-one}
 use native.Mathlib.Omega.{arith}
 use lib.ListN.{length, take, drop, getD, set, take-append-drop}
 use lib.Seq.{length-take-le}

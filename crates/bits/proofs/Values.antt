@@ -7,11 +7,11 @@
 --   value-lt       value bytes n is below 2 ^ n
 --   window-bytes   a window of at most 32 bits from five bytes
 use Prim.Native.Nat.{ℕ, zero, suc, _+_, _*_, _-_, _/_, _%_, _^_, _≤_, _<_}
-use mathlib.Core.Path.{_≡_, refl, sym, ap, ap₂, _∙_, subst}
+use mathlib.Core.Path.{_≡_, refl, sym, ap, ap₂, _∙_}
 use mathlib.Core.List.{List, [], _∷_}
-use native.Mathlib.Nat.{mod-lt, mod-one, add-comm, pow-suc, pow-succ', pow-zero, div-one, div-div-eq-div-mul, div-add-mod, mul-le-mul-right}
+use native.Mathlib.Nat.{mod-one, add-comm, pow-suc, div-div-eq-div-mul, div-add-mod, mul-le-mul-right}
 use native.Mathlib.Omega.{arith}
-use lib.Pow.{pow-pos, pow-add, mod-pow-add, field, mod-mod-pow}
+use lib.Pow.{pow-add, mod-pow-add, field, mod-mod-pow}
 use lib.ListN.{getD}
 use Rattle.bits.specs.Bits.{num, digits, Below, bitOf, bitAt, value, window}
 use Rattle.bits.proofs.Numbers.{pow8}

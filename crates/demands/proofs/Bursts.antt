@@ -1,9 +1,9 @@
 -- A burst and its fraction, tested: computed from the definitions alone, by trying every pair that is no larger. `learns-sound` says what a passed test means.
-use mathlib.Core.Path.{_≡_, refl, sym, ap, _∙_, subst, subst₂}
-use mathlib.Core.Logic.{_⊎_, inl, inr}
+use mathlib.Core.Path.{_≡_, refl, sym, ap, _∙_, subst}
+use mathlib.Core.Logic.{inl, inr}
 use mathlib.Core.Bool.{Bool, true, false, not, _&&_, _||_}
 use mathlib.Core.List.{List, [], _∷_}
-use Prim.Native.Nat.{ℕ, zero, suc, _+_, _*_, _/_, _%_, _^_, _≤_, _<_, max}
+use Prim.Native.Nat.{ℕ, zero, suc, _+_, _*_, _/_, _%_, _^_, _≤_, _<_}
 use native.Mathlib.Omega.{arith}
 use native.Mathlib.Nat.{mul-mod-right}
 use lib.Dec.{T, eqb, leb, ltb, leb→le, eqb→eq, ltb→lt}
@@ -13,10 +13,10 @@ use lib.ListN.{length}
 use Rattle.integers.proofs.Parts.{natAbs-*}
 use Rattle.integers.proofs.Finite.{le-or-gt}
 use Rattle.bits.specs.Bits.{num, digits, value}
-use Rattle.fractions.specs.Pairs.{limit, Inside, Fits, size, below, Then, NotAfter, Smallest}
+use Rattle.fractions.specs.Pairs.{limit, Inside, Fits, size, below, Then, NotAfter}
 use Rattle.fractions.proofs.Lowest.{part}
 use Rattle.demands.proofs.Loaded.{and-T}
-use Rattle.learning.specs.Learning.{Enough, Learns, answer}
+use Rattle.learning.specs.Learning.{Learns, answer}
 
 -- ---- tests and what they mean
 -- f of every number up to n

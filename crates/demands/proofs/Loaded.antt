@@ -1,17 +1,17 @@
 -- A pair, the register it loads and the pair that reads back, tested: computed from the definitions alone. `loads-sound` says what a passed test means.
-use mathlib.Core.Path.{_≡_, refl, sym, ap, _∙_, subst}
+use mathlib.Core.Path.{_≡_, refl, sym, subst}
 use mathlib.Core.Bool.{Bool, true, false, _&&_, _||_}
-use mathlib.Core.List.{List, [], _∷_}
-use Prim.Native.Nat.{ℕ, zero, suc, _+_, _*_, _%_, _^_, _≤_, _<_}
+use mathlib.Core.List.{[], _∷_}
+use Prim.Native.Nat.{ℕ, zero, suc, _+_, _*_, _%_, _^_, _≤_}
 use native.Mathlib.Omega.{arith}
 use native.Mathlib.Nat.{mod-eq-of-lt, mod-zero}
 use lib.Dec.{T, eqb, leb, eqb→eq, leb→le}
-use lib.IntN.{ℤ, pos, negsuc, natAbs, _-ℤ_, _*ℤ_}
-use Rattle.integers.specs.Numbers.{log2, logIn, Divides, Coprime}
+use lib.IntN.{ℤ, pos, natAbs, _-ℤ_, _*ℤ_}
+use Rattle.integers.specs.Numbers.{Divides, Coprime}
 use Rattle.integers.proofs.Parts.{up, down, eq-of}
-use Rattle.fractions.specs.Pairs.{limit, Inside, Lowest, LowestTerms}
-use Rattle.fractions.specs.Expansion.{nextNum, iterNum, digitsTo}
-use Rattle.registers.specs.Registers.{cellCount, Load, sumBelow, yTo, numOf}
+use Rattle.fractions.specs.Pairs.{limit, Inside, Lowest}
+use Rattle.fractions.specs.Expansion.{digitsTo}
+use Rattle.registers.specs.Registers.{cellCount, Load, yTo}
 use Rattle.registers.specs.Answers.{Loads, loaded, ReadsBack, pair}
 use Rattle.registers.specs.declared.Register.{Register}
 use Rattle.registers.proofs.Loading.{load-numerator, load-valid}

@@ -5,10 +5,10 @@
 --                                L + T answers and L + T - 1 refuses ("Allowance 36 answers, 35 refuses.")
 --   Holds                        what the document says of a row, in the words of the contracts
 --   starred                      every row holds
-use mathlib.Core.Path.{_≡_, refl, sym, ap, _∙_, subst}
-use mathlib.Core.Bool.{Bool, true, false, _&&_}
+use mathlib.Core.Path.{_≡_, refl, sym, subst}
+use mathlib.Core.Bool.{Bool, true, _&&_}
 use mathlib.Core.List.{List, [], _∷_}
-use Prim.Native.Nat.{ℕ, zero, suc, _+_, _-_, _*_, _%_, _^_, _≤_, _<_}
+use Prim.Native.Nat.{ℕ, zero, suc, _+_, _-_, _%_}
 use native.Mathlib.Omega.{arith}
 use lib.Dec.{T, eqb, ltb, eqb→eq, ltb→lt}
 use lib.IntN.{ℤ, pos, negsuc}
@@ -18,7 +18,7 @@ use Rattle.bits.specs.Bits.{num, digits, value}
 use Rattle.fractions.specs.Expansion.{nextNum, iterNum, digitsTo}
 use Rattle.learning.specs.Learning.{Learns}
 use Rattle.registers.specs.declared.Register.{Register}
-use Rattle.registers.specs.Registers.{Valid, numOf, sumBelow, yTo}
+use Rattle.registers.specs.Registers.{Valid, sumBelow, yTo}
 use Rattle.registers.specs.Answers.{Loads, loaded, ReadsBack, pair}
 use Rattle.registers.proofs.Loading.{load-numerator}
 use Rattle.periods.proofs.Entries.{isOrder, order-tested}

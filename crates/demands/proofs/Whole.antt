@@ -10,7 +10,7 @@ use mathlib.Core.Path.{_≡_, refl, sym, ap, ap₂, _∙_, subst, subst₂}
 use mathlib.Core.Bool.{Bool, true, false}
 use mathlib.Core.Logic.{inl, inr}
 use mathlib.Core.List.{List, [], _∷_}
-use Prim.Native.Nat.{ℕ, zero, suc, _+_, _*_, _%_, _^_, _≤_, _<_}
+use Prim.Native.Nat.{ℕ, _+_, _*_, _%_, _^_, _≤_, _<_}
 use native.Mathlib.Omega.{arith}
 use native.Mathlib.Nat.{mod-eq-of-lt, eq-of-mul-eq-mul-left}
 use lib.Pow.{pow-pos}
@@ -21,8 +21,8 @@ use lib.ListN.{length}
 use Rattle.bits.specs.Bits.{num, digits}
 use Rattle.bits.proofs.Numbers.{length-digits}
 use Rattle.bits.proofs.Values.{num-low}
-use Rattle.fractions.specs.Pairs.{Inside, Fits, Smallest, Lowest}
-use Rattle.fractions.specs.Expansion.{iterNum, digitsTo}
+use Rattle.fractions.specs.Pairs.{Inside, Fits, Lowest}
+use Rattle.fractions.specs.Expansion.{digitsTo}
 use Rattle.fractions.proofs.Numerators.{digits-lt}
 use Rattle.fractions.proofs.Expansion.{expansion-fits, digits-same}
 use Rattle.fractions.proofs.Order.{smallest-recovered}

@@ -16,17 +16,17 @@ use Prim.Native.Nat.{ℕ, zero, suc, _+_, _-_, _*_, _/_, _%_, _^_, _≤_, _<_}
 use native.Mathlib.Omega.{arith}
 use native.Mathlib.Nat.{pow-suc, mul-le-mul-right, add-mul-div-left, div-eq-of-lt, zero-add}
 use lib.Pow.{pow-pos}
-use lib.IntN.{ℤ, pos, negsuc, negℤ, _+ℤ_, _-ℤ_, _*ℤ_}
+use lib.IntN.{ℤ, pos, negsuc, negℤ, _-ℤ_, _*ℤ_}
 use Rattle.integers.specs.Numbers.{oddZ}
 use Rattle.integers.proofs.Sizes.{odd-lt}
 use Rattle.integers.proofs.Finite.{le-or-gt}
 use Rattle.integers.proofs.Order.{eq-by, z-sub, z-*}
 use Rattle.integers.proofs.Ring.{lit, neg, _⊕_, _⊗_, _⊖_, ring3, ring5, _≔_}
 use Rattle.bits.specs.Bits.{bitOf, bitAt, value}
-use Rattle.fractions.specs.Pairs.{Inside, Fits, SameFraction}
+use Rattle.fractions.specs.Pairs.{Fits, SameFraction}
 use Rattle.fractions.specs.Expansion.{nextNum, iterNum, digitAt, digitsTo}
 use Rattle.fractions.specs.Answers.{Outputs, word, outside}
-use Rattle.fractions.proofs.Numerators.{Splits, split-eq, split-of, expansion-splits, splits-unique, digits-add, digits-lt, odd-is}
+use Rattle.fractions.proofs.Numerators.{Splits, split-eq, split-of, expansion-splits, splits-unique, digits-add, digits-lt}
 use Rattle.fractions.proofs.Same.{fits-same}
 use Rattle.bits.proofs.Values.{bit-lt, value-lt}
 

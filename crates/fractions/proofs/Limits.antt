@@ -1,10 +1,10 @@
 -- Inside the limits, as code tests it.
 use mathlib.Core.Path.{_≡_, refl, sym, subst}
 use mathlib.Core.Bool.{Bool, true, false}
-use Prim.Native.Nat.{ℕ, suc, _%_, _≤_, _<_}
+use Prim.Native.Nat.{ℕ, _%_, _≤_, _<_}
 use native.Mathlib.Omega.{arith}
 use borrow.Author.Tests.{leb-true, leb-false, ltb-true, ltb-false}
-use lib.Dec.{T, ltb, leb}
+use lib.Dec.{T, leb}
 use lib.IntN.{ℤ, pos, negsuc, natAbs}
 use lib.Signed.{leZ, ltZ}
 use Rattle.fractions.specs.Pairs.{Inside, limit}

@@ -10,12 +10,12 @@
 --   inside-lowest   so those of a pair inside the limits are inside them
 --   lowest-exists   every fraction has its lowest terms
 --   power-coprime   what divides both of two numbers of a combination that is a power of two, one of them odd, is 1
-use mathlib.Core.Path.{_≡_, refl, sym, ap, ap₂, _∙_, subst}
+use mathlib.Core.Path.{_≡_, refl, sym, ap, _∙_, subst}
 use mathlib.Core.Bool.{Bool, true, false}
 use Prim.Native.Nat.{ℕ, zero, suc, _+_, _*_, _/_, _%_, _^_, _≤_, _<_}
 use native.Mathlib.Omega.{arith}
 use native.Mathlib.Nat.{pow-succ', mul-mod-right, mul-comm, eq-of-mul-eq-mul-right, div-le-self, eq-of-mul-eq-mul-left}
-use lib.IntN.{ℤ, pos, negsuc, negℤ, natAbs, _-ℤ_, _*ℤ_}
+use lib.IntN.{ℤ, pos, negsuc, negℤ, natAbs, _*ℤ_}
 use lib.Signed.{ltZ}
 use lib.Dec.{T}
 use borrow.Author.Tests.{ltb-true}

@@ -6,9 +6,9 @@
 --   splits-unique     .. and no other number below 2^n and numerator do it
 --   iter-add, digits-add   n digits, then m more
 --   digits-lt         the first n digits are a number below 2^n
-use mathlib.Core.Path.{_≡_, refl, sym, ap, ap₂, _∙_, subst}
+use mathlib.Core.Path.{_≡_, refl, sym, ap, _∙_}
 use mathlib.Core.Logic.{_⊎_, inl, inr}
-use Prim.Native.Nat.{ℕ, zero, suc, _+_, _-_, _*_, _/_, _%_, _^_, _≤_, _<_, min}
+use Prim.Native.Nat.{ℕ, zero, suc, _+_, _-_, _*_, _%_, _^_, _≤_, _<_, min}
 use native.Mathlib.Omega.{arith}
 use native.Mathlib.Nat.{add-zero, add-suc, pow-suc, mod-eq-of-lt, mul-le-mul-right, eq-of-mul-eq-mul-right}
 use lib.Pow.{pow-pos, pow-add}

@@ -8,12 +8,11 @@
 --   smallest-certified  a pair inside, in lowest terms, that fits n ≥ 61 bits is the smallest
 --   smallest-settled    where 2 size² < 2^n, every pair inside that fits and is no larger is the same pair
 --   smallest-recovered  from 2 b + 1 bits a pair in lowest terms below 2^b is itself the smallest
-use mathlib.Core.Path.{_≡_, refl, sym, ap, ap₂, _∙_, subst}
+use mathlib.Core.Path.{_≡_, refl, sym, ap, ap₂, _∙_}
 use mathlib.Core.Logic.{_⊎_, inl, inr}
 use Prim.Native.Nat.{ℕ, zero, suc, _+_, _*_, _-_, _/_, _%_, _^_, _≤_, _<_, max}
 use native.Mathlib.Omega.{arith}
 use native.Mathlib.Nat.{mul-comm, mul-le-mul-right}
-use native.Mathlib.Decide.{decLe}
 use lib.Pow.{pow-pos, pow-mono, pow-add}
 use lib.IntN.{ℤ, pos, negsuc, natAbs, _-ℤ_, _*ℤ_}
 use Rattle.integers.proofs.Coprime.{quot}

@@ -4,10 +4,10 @@
 --   odd-cancel      an odd factor does not help a power of two
 --   fits-same       fitting depends on the fraction alone
 --   same-fraction   two pairs that fit n bits, with |p| and q at most X and 2 X² < 2^n, are the same fraction
-use mathlib.Core.Path.{_≡_, refl, sym, ap, ap₂, _∙_, subst}
+use mathlib.Core.Path.{_≡_, sym, ap, _∙_, subst}
 use mathlib.Core.Logic.{_⊎_, inl, inr}
 use mathlib.Core.List.{[], _∷_}
-use Prim.Native.Nat.{ℕ, zero, suc, _+_, _*_, _/_, _%_, _^_, _≤_, _<_}
+use Prim.Native.Nat.{ℕ, zero, suc, _+_, _*_, _%_, _^_, _≤_, _<_}
 use native.Mathlib.Omega.{arith}
 use native.Mathlib.Nat.{pow-succ', mul-le-mul-left}
 use lib.Pow.{pow-pos}

@@ -5,7 +5,6 @@
 --   digitAt q p i   digit i
 --   digitsTo q n p  the first n digits as one number, first digit lowest
 -- The law `expansion-unique` says that digitsTo q n p is the one number below 2^n that p/q fits.
-use mathlib.Core.Path.{_≡_}
 use Prim.Native.Nat.{ℕ, zero, suc, _+_, _*_, _^_}
 use lib.IntN.{ℤ, pos, _-ℤ_}
 use Rattle.integers.specs.Numbers.{oddZ, halfZ}

@@ -1,9 +1,9 @@
 -- Remainders by a number W, and inverses modulo a power of 2.
-use mathlib.Core.Path.{_≡_, refl, sym, ap, ap₂, _∙_, subst}
+use mathlib.Core.Path.{_≡_, sym, ap, ap₂, _∙_}
 use Prim.Native.Nat.{ℕ, zero, suc, _+_, _-_, _*_, _/_, _%_, _^_, _≤_, _<_}
 use native.Mathlib.Omega.{arith}
-use native.Mathlib.Nat.{div-add-mod', mod-one, mod-eq-of-lt, mod-mod, mul-assoc, mul-comm, mul-one, add-mul-mod-self-left, add-mul-mod-self-right, pow-suc, mul-le-mul, mul-le-mul-right, le-refl}
-use lib.Pow.{pow-pos, pow-add, pow-lt}
+use native.Mathlib.Nat.{div-add-mod', mod-eq-of-lt, mul-assoc, mul-comm, mul-one, add-mul-mod-self-left, pow-suc, mul-le-mul-right}
+use lib.Pow.{pow-pos, pow-lt}
 
 -- equal up to multiples of W
 pub cong-of : (W x y a b : ℕ) → x + W * a ≡ y + W * b → x % W ≡ y % W

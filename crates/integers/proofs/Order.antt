@@ -1,11 +1,11 @@
 -- Nonlinear order over ℤ: a ≤ b because b − a is a sum of products of things not negative.
-use mathlib.Core.Path.{_≡_, refl, sym, _∙_, ap, ap₂, subst}
+use mathlib.Core.Path.{_≡_, refl, _∙_, ap, ap₂}
 use Prim.Native.Nat.{ℕ, zero, suc, _+_, _*_, _<_, _≤_}
 use native.Mathlib.Omega.{arith}
 use lib.IntN.{ℤ, pos, negsuc, negℤ, _+ℤ_, _-ℤ_, _*ℤ_, natAbs, *ℤ-zero}
-use lib.Signed.{_≤ℤ_, _<ℤ_, leZ-yes}
+use lib.Signed.{_≤ℤ_, _<ℤ_}
 use mathlib.Core.Logic.{_⊎_, inl, inr}
-use Rattle.integers.proofs.Parts.{zarith, natAbs-*, parts-+, up, down, up-neg, down-neg}
+use Rattle.integers.proofs.Parts.{zarith, natAbs-*, parts-+, up-neg, down-neg}
 
 -- not negative
 abbrev pub NN : ℤ → Type 0

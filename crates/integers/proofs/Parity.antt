@@ -8,7 +8,7 @@ use Prim.Native.Nat.{ℕ, zero, suc, _+_, _*_, _%_, _/_}
 use native.Mathlib.Omega.{arith}
 use lib.Dec.{T}
 use lib.IntN.{ℤ, pos, negsuc, negℤ, _+ℤ_, _*ℤ_, natAbs, pow, one}
-use Rattle.integers.proofs.Parts.{natAbs-is, natAbs-neg, natAbs-*, parts-+, parts-*, up, down, zarith}
+use Rattle.integers.proofs.Parts.{natAbs-is, natAbs-neg, natAbs-*, parts-+, parts-*, zarith}
 use Rattle.integers.specs.Numbers.{Odd, Even}
 use Rattle.integers.proofs.Ring.{E, var, lit, _⊕_, _⊗_, neg, pw, val, at}
 

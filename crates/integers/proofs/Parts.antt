@@ -12,10 +12,10 @@ use Prim.Native.Nat.{ℕ, zero, suc, _+_, _*_, _-_, _<_, _≤_, min}
 use native.Mathlib.Omega.{arith}
 use native.Mathlib.Nat.{mul-le-mul-left}
 use native.Mathlib.Decide.{decLe}
-use lib.Dec.{T, ltb, leb, ltb→lt, nltb→le, lt→ltb, leb→le, le→leb}
+use lib.Dec.{T, ltb, ltb→lt, nltb→le, lt→ltb, leb→le, le→leb}
 use lib.Signed.{_≤ℤ_, _<ℤ_, leZ-yes, ltZ-yes, leZ, ltZ}
 use lib.IntN.{ℤ, pos, negsuc, negℤ, _+ℤ_, _-ℤ_, _*ℤ_, natAbs, subℕ}
-use borrow.Author.Tests.{leb-true, le-leb}
+use borrow.Author.Tests.{le-leb}
 use Rattle.integers.specs.Numbers.{oddZ, halfZ}
 
 -- the positive and the negative part

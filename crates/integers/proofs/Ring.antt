@@ -1,7 +1,7 @@
 -- A ring normaliser for ℤ. `E` is an expression over numbered variables, `P` a polynomial: `k c` is a constant, `a ▹ p` is
 -- a + X p, where X is the first variable, p is over the same variables, and a over the variables after X.
 -- `ring e f ρ tt` proves that e and f have the same value at the variables' values ρ: the polynomial of e − f is all zeros.
-use mathlib.Core.Path.{_≡_, refl, sym, _∙_, ap, ap₂, subst}
+use mathlib.Core.Path.{_≡_, refl, sym, _∙_, ap, ap₂}
 use mathlib.Core.Bool.{Bool, true, false, _&&_}
 use mathlib.Core.List.{List, [], _∷_}
 use Prim.Native.Nat.{ℕ, zero, suc}

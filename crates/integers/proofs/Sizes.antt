@@ -1,5 +1,5 @@
 -- How large signed numbers are: bounds that omega reads, and that a number fits its width. `mag` is the kit's: n of n and of -(n + 1).
-use mathlib.Core.Path.{_≡_, refl, sym, ap, _∙_, subst}
+use mathlib.Core.Path.{_≡_, refl, _∙_}
 use mathlib.Core.Bool.{Bool, true, false, not, cond}
 use Prim.Native.Nat.{ℕ, zero, suc, _+_, _-_, _*_, _/_, _%_, _^_, _≤_, _<_}
 use native.Mathlib.Nat.{le-refl, mul-le-mul}
@@ -8,8 +8,8 @@ use lib.Dec.{T, ltb, ltb→lt, nltb→le}
 use lib.Bits.{bitAnd, and-mask}
 use lib.IntN.{ℤ, pos, negsuc, subℕ, negℤ, natAbs, _+ℤ_, _-ℤ_, _*ℤ_}
 use lib.Signed.{mag}
-use mir.Syntax.{Width, w64}
-use mir.Val.{SFits, hbits, toZ, ofZ}
+use mir.Syntax.{w64}
+use mir.Val.{SFits, ofZ}
 use borrow.Author.Needs.{sfits-of}
 use Rattle.integers.specs.Numbers.{oddZ, halfZ}
 use Rattle.integers.proofs.Parts.{natAbs-+, natAbs-*, natAbs-neg}

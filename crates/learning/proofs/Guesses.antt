@@ -18,7 +18,7 @@ use Rattle.integers.specs.Numbers.{Coprime}
 use Rattle.integers.proofs.Parts.{eq-to, parts-+, parts--, parts-*, natAbs-is, natAbs-*, natAbs-neg, eq-of-sub}
 use Rattle.integers.proofs.Order.{eq-by, z-sub, z-*, z-+}
 use Rattle.integers.proofs.Sizes.{abs--, abs-*}
-use Rattle.integers.proofs.Ring.{E, Eqn, ok, Holds, var, lit, #, neg, _⊕_, _⊗_, _⊖_, ring, ring1, ring2, ring3, ring4, ring6, _≔_, ring11}
+use Rattle.integers.proofs.Ring.{var, lit, #, neg, _⊕_, _⊗_, _⊖_, ring, ring1, ring2, ring3, ring4, ring6, _≔_, ring11}
 use Rattle.bits.specs.Bits.{value}
 use Rattle.fractions.specs.Pairs.{limit, Inside, Fits, Smallest, NoneFits, SameFraction}
 use Rattle.fractions.proofs.Same.{cancel, fits-same}

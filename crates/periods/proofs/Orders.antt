@@ -3,12 +3,12 @@ use mathlib.Core.Path.{_≡_, refl, sym, ap, _∙_}
 use mathlib.Core.Logic.{inl, inr, _↔_}
 use Prim.Native.Nat.{ℕ, zero, suc, _+_, _-_, _*_, _/_, _%_, _^_, _≤_, _<_, max}
 use native.Mathlib.Omega.{arith}
-use native.Mathlib.Nat.{mod-zero, mod-one, mod-eq-of-lt, mod-lt, zero-mod, one-mul, mul-one, mul-zero, mul-suc, mul-mod-right, div-add-mod, le-trans}
+use native.Mathlib.Nat.{mod-one, mod-eq-of-lt, mod-lt, zero-mod, one-mul, mul-zero, mul-suc, mul-mod-right, div-add-mod, le-trans}
 use native.Mathlib.Decide.{ℕ-discrete, map-dec}
 use lib.Pow.{pow-add, pow-pos}
-use Rattle.integers.specs.Numbers.{Least, Coprime}
+use Rattle.integers.specs.Numbers.{Least}
 use Rattle.integers.proofs.Finite.{least, le-or-gt, Twice, pigeon}
-use Rattle.integers.proofs.Coprime.{quot, mod-drop, euclid, two-cancel}
+use Rattle.integers.proofs.Coprime.{quot, mod-drop, two-cancel}
 use Rattle.integers.proofs.Modulo.{cong-of, mul-mod-l}
 use Rattle.periods.specs.Orders.{UnitPower, Order}
 

@@ -8,23 +8,22 @@
 --   bits-own                so the bits that a meter gets are known from the bytes of its own records
 --   parse-append            a block behind another: the records of both, those of the second moved on
 --   form-append             and its form is sound where the two are, if it is not too long
-use Prim.Native.Nat.{ℕ, zero, suc, _+_, _-_, _*_, _/_, _^_, _≤_, _<_}
+use Prim.Native.Nat.{ℕ, zero, suc, _+_, _-_, _^_, _≤_, _<_}
 use mathlib.Core.Path.{_≡_, refl, sym, ap, _∙_, subst}
 use mathlib.Core.Bool.{Bool, true, false, cond}
 use mathlib.Core.List.{List, [], _∷_, _++_, map, flatten, append-nil}
 use native.Mathlib.Omega.{arith}
 use native.Mathlib.Nat.{add-zero}
 use lib.ListN.{length, getD, take, drop, length-drop, length-append, take-append-drop, List·getD-append}
-use lib.Seq.{length-take-le, getD-take, getD-drop, drop-drop, take-take, take-append-le, drop-append-le, getD-append-add, drop-append-add, drop-length, take-all}
+use lib.Seq.{length-take-le, getD-take, getD-drop, drop-drop, getD-append-add, drop-length}
 use lib.Dec.{ltb, leb, eqb}
-use borrow.Author.Tests.{le-leb, leb-true, ltb-true, ltb-false, le-ltb}
-use Rattle.bits.specs.Bits.{num, digits}
+use borrow.Author.Tests.{le-leb, leb-true, ltb-false, le-ltb}
+use Rattle.bits.specs.Bits.{num}
 use Rattle.records.specs.declared.Record.{Record}
 use Rattle.records.specs.declared.Refusal.{Refusal}
 use Rattle.records.specs.declared.Refusal.the-variants.{TooLong, ShortHeader, WrongMark, BadMeter, BadCount, RunsPast, SpareBit}
 use Rattle.records.specs.declared.Head.{Head}
 use Rattle.records.specs.declared.Head.the-variants as H
-use Rattle.records.specs.declared.Form.{Form}
 use Rattle.records.specs.declared.Form.the-variants as F
 use Rattle.records.specs.Block.{headerSize, meterAt, countAt, markWord, meters, recordBits, blockBytes, twoBytes, bytesFor, payload, judged, headAt, Entry, entryOf, Parsed, onHead, parseFrom, parse, formOf}
 use Rattle.records.specs.Named.{named, bytesOf, ownBytes, brought, moved}

@@ -10,16 +10,15 @@
 --   read-back-emits  loading what was read back emits the same bits
 use mathlib.Core.Path.{_≡_, refl, sym, ap, ap₂, _∙_, subst}
 use mathlib.Core.Bool.{Bool, true, false}
-use Prim.Native.Nat.{ℕ, _+_, _*_, _%_, _^_, _≤_, _<_}
+use Prim.Native.Nat.{ℕ}
 use native.Mathlib.Omega.{arith}
-use lib.IntN.{ℤ, pos, natAbs}
+use lib.IntN.{ℤ, natAbs}
 use Rattle.integers.proofs.Finite.{least-unique}
 use Rattle.fractions.specs.Pairs.{Inside, Lowest}
 use Rattle.fractions.specs.Answers.{Decides}
 use Rattle.fractions.specs.Expansion.{digitsTo}
-use Rattle.fractions.specs.declared.Fraction.{Fraction}
 use Rattle.fractions.proofs.Lowest.{lowest-unique, inside-lowest}
-use Rattle.registers.specs.Registers.{Valid, Load, cellCount, numOf, outTo}
+use Rattle.registers.specs.Registers.{Valid, Load, numOf, outTo}
 use Rattle.registers.specs.Answers.{Steps, stepped, stepNumber, stepBit, stepRegister, Loads, loaded, wide, loadNumber, loadRegister, ReadsBack, pair, readNumber, readP, readQ, Sheets, sheet, sheetNumber, sheetCells, sheetBits}
 use Rattle.registers.specs.Answers as A
 use Rattle.registers.specs.declared.Register.{Register}

@@ -6,15 +6,15 @@
 --   load-state      a valid register is the one that its numerator loads
 --   load-valid      a loaded register whose memory fits is valid
 use mathlib.Core.Path.{_≡_, refl, sym, ap, ap₂, _∙_, subst}
-use Prim.Native.Nat.{ℕ, zero, suc, _+_, _-_, _*_, _/_, _%_, _^_, _≤_, _<_}
+use Prim.Native.Nat.{ℕ, zero, suc, _+_, _-_, _*_, _%_, _^_, _≤_, _<_}
 use native.Mathlib.Omega.{arith}
 use native.Mathlib.Nat.{mul-le-mul-right}
 use native.Mathlib.Numerals.{add-one}
 use lib.Pow.{pow-pos}
-use lib.IntN.{ℤ, pos, negsuc, natAbs, negℤ, _+ℤ_, _-ℤ_, _*ℤ_}
-use Rattle.integers.specs.Numbers.{oddZ, halfZ}
+use lib.IntN.{ℤ, pos, natAbs, negℤ, _+ℤ_, _-ℤ_, _*ℤ_}
+use Rattle.integers.specs.Numbers.{oddZ}
 use Rattle.integers.proofs.Sizes.{odd-lt, abs--}
-use Rattle.integers.proofs.Ring.{ring2, ring3, ring4, neg, _⊕_, _⊖_, _⊗_, _≔_}
+use Rattle.integers.proofs.Ring.{ring2, ring4, neg, _⊕_, _⊖_, _⊗_, _≔_}
 use Rattle.fractions.specs.Pairs.{Inside}
 use Rattle.fractions.specs.Expansion.{nextNum, iterNum, digitsTo}
 use Rattle.fractions.proofs.Numerators.{digits-lt, expansion-splits, split-eq}

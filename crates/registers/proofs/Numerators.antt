@@ -3,14 +3,14 @@
 --   y-is            y in ℕ: the sum over j of q_j·2^j·(a mod 2^(r-j)), less a
 --   y-over          y = a·q - 2^r·overTo: what code computes
 --   step-numerator  num(S) = a_0·q + 2·num(S'), once over r
-use mathlib.Core.Path.{_≡_, refl, sym, ap, ap₂, _∙_, subst}
+use mathlib.Core.Path.{_≡_, sym, ap, _∙_}
 use Prim.Native.Nat.{ℕ, zero, suc, _+_, _-_, _*_, _/_, _%_, _^_, _≤_, _<_}
 use native.Mathlib.Omega.{arith}
 use native.Mathlib.Nat.{pow-suc, add-comm, mul-assoc, add-mul-mod-self-right, mod-eq-of-lt, div-add-mod', mod-lt, mul-le-mul, sub-zero}
 use native.Mathlib.Numerals.{add-one}
 use lib.Pow.{pow-add, mod-pow-add, pow-pos}
 use lib.IntN.{ℤ, pos, negsuc, _+ℤ_, _-ℤ_, _*ℤ_}
-use Rattle.integers.specs.Numbers.{oddZ, halfZ, log2}
+use Rattle.integers.specs.Numbers.{oddZ}
 use Rattle.integers.proofs.Sizes.{odd-lt}
 use Rattle.integers.proofs.Parts.{up, down, eq-of, parts-+, parts--, parts-*pos, parts-half}
 use Rattle.integers.proofs.Ring.{ring2, ring4, ring5, lit, #, _⊕_, _⊖_, _⊗_, _≔_}

@@ -1,13 +1,10 @@
 -- The storage sheet: the length of a number in bits, by the zeros that the machine counts above its highest one.
-use mathlib.Core.Path.{_≡_, refl, sym, ap, _∙_, subst}
-use Prim.Native.Nat.{ℕ, zero, suc, _+_, _-_, _*_, _/_, _%_, _^_, _≤_, _<_}
+use Prim.Native.Nat.{ℕ, suc, _+_, _-_, _/_, _≤_}
 use native.Mathlib.Omega.{arith}
 use native.Mathlib.Nat.{not-suc-le-zero}
 use lib.Arith.{bin-ind}
-use lib.Pow.{pow-mono}
-use lib.Count.{ones, ones-step, leadingZeros, leading-le, leading-length}
+use lib.Count.{ones, ones-step}
 use mathlib.Core.Logic.{inl, inr}
-use Rattle.integers.specs.Numbers.{Least}
 use Rattle.integers.proofs.Finite.{lt-or-ge}
 
 -- a number that is not 0 has a digit that is set

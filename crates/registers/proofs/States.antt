@@ -6,12 +6,12 @@
 --   cells-digits     the cells are the first r digits
 --   state-unique     for one q, equal numerators mean equal valid registers
 --   numerator-size   |num(S)| is below 2^(31 + r)
-use mathlib.Core.Path.{_≡_, refl, sym, ap, ap₂, _∙_, subst}
+use mathlib.Core.Path.{_≡_, refl, sym, ap, ap₂, _∙_}
 use Prim.Native.Nat.{ℕ, zero, suc, _+_, _-_, _*_, _/_, _%_, _^_, _≤_, _<_, min}
 use native.Mathlib.Omega.{arith}
 use native.Mathlib.Nat.{mod-one, mod-eq-of-lt, eq-of-mul-eq-mul-right, mul-le-mul-right, add-zero, add-suc, pow-suc}
 use lib.Pow.{pow-pos, pow-add, pow-mono}
-use lib.IntN.{ℤ, pos, negsuc, natAbs, _+ℤ_, _-ℤ_, _*ℤ_}
+use lib.IntN.{ℤ, pos, natAbs, _-ℤ_, _*ℤ_}
 use Rattle.integers.specs.Numbers.{oddZ}
 use Rattle.integers.proofs.Parts.{up, down, eq-of, parts-+, parts--, parts-*pos, natAbs-is, parts}
 use Rattle.fractions.specs.Expansion.{nextNum, iterNum, digitsTo}

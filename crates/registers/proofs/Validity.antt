@@ -3,20 +3,17 @@
 --   facts        what a valid register's numbers are, as code needs them
 --   valid-next   a valid register stays valid after a step; valid-iter, after n
 --   iter-q       q stays
-use mathlib.Core.Path.{_≡_, refl, sym, ap, _∙_, subst}
+use mathlib.Core.Path.{_≡_, refl, ap}
 use mathlib.Core.Bool.{Bool, true, false}
 use Prim.Native.Nat.{ℕ, zero, suc, _+_, _-_, _*_, _/_, _%_, _^_, _≤_, _<_}
 use native.Mathlib.Omega.{arith}
 use native.Mathlib.Nat.{mul-le-mul, mul-le-mul-right, not-suc-le-zero}
 use native.Mathlib.Numerals.{add-one}
-use borrow.Author.Tests.{leb-true, leb-false}
-use lib.Dec.{T, leb}
 use mir.Syntax.{w32, w64}
 use mir.Val.{Fits, toZ, ofZ}
 use mir.ValLaws.{toZ-ofZ}
 use lib.IntN.{ℤ, pos, negsuc, natAbs, _+ℤ_, _*ℤ_}
-use lib.Signed.{mag}
-use Rattle.integers.specs.Numbers.{oddZ, halfZ, log2}
+use Rattle.integers.specs.Numbers.{oddZ, halfZ}
 use Rattle.integers.proofs.Log2.{log2-step, log2-below}
 use Rattle.integers.proofs.Sizes.{odd-lt, fits64, mag-le}
 use Rattle.integers.proofs.Parts.{natAbs-+}
@@ -26,7 +23,6 @@ use Rattle.fractions.specs.Answers.{Decides}
 use Rattle.registers.specs.Inner.{tapsTo, overTo}
 use Rattle.registers.specs.Registers.{cellCount, Valid, sumBelow, tapSum, sumOf, nextOf, iterOf, tap, cell}
 use Rattle.registers.specs.declared.Register.{Register}
-use Rattle.fractions.proofs.Limits.{decides-le}
 
 pub record Facts (g : Register) : Type 0 where
   pub odd : g .q % 2 ≡ 1

@@ -6,11 +6,9 @@
 --   ReadsBack g number p q        a pair read back: 0, 5, or 7                       ("Read back: 5, 7.")
 --   Sheets g number cells bits    the storage sheet: 0, or 5
 -- The functions over them give the number and the values of every case of each answer.
-use mathlib.Core.Path.{_≡_}
 use Prim.Native.Nat.{ℕ, _^_, _≤_, _<_}
 use lib.IntN.{ℤ, pos, natAbs}
 use Rattle.fractions.specs.Pairs.{Inside, Lowest}
-use Rattle.fractions.specs.declared.Fraction.{Fraction}
 use Rattle.registers.specs.Registers.{Valid, emitted, nextOf, numOf, cellCount, Load, MemoryBits}
 use Rattle.registers.specs.declared.Register.{Register}
 use Rattle.registers.specs.declared.Stepped.{Stepped}

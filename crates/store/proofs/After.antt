@@ -18,7 +18,6 @@ use Rattle.records.specs.Block.{meters, parse, formOf}
 use Rattle.records.specs.declared.Refusal.{Refusal}
 use Rattle.records.specs.declared.Form.{Form}
 use Rattle.records.specs.declared.Form.the-variants as F
-use Rattle.records.proofs.Walk.{each-record}
 use Rattle.store.specs.declared.Room.{Room}
 use Rattle.store.specs.declared.Room.the-variants as R
 use Rattle.store.specs.declared.Answer.{Answer}

@@ -7,8 +7,8 @@
 --   Holds bytes n bits   the first n bits of the bytes are these bits, as learning sees them: their value, and that there are bytes enough
 --   burst-holds      the bytes and the count of a meter's place hold its bits
 --   part-holds       so does the part of the store that a call hands on
-use Prim.Native.Nat.{ℕ, _+_, _-_, _*_, _^_, _≤_, _<_}
-use mathlib.Core.Path.{_≡_, refl, sym, ap, _∙_, subst}
+use Prim.Native.Nat.{ℕ, _+_, _-_, _*_, _≤_, _<_}
+use mathlib.Core.Path.{_≡_, sym, ap, _∙_, subst}
 use mathlib.Core.Bool.{true}
 use mathlib.Core.List.{List, [], _∷_, append-nil}
 use native.Mathlib.Omega.{arith}
@@ -21,7 +21,7 @@ use Rattle.bits.proofs.Values.{value-bits}
 use Rattle.records.specs.Block.{meters}
 use Rattle.store.specs.Places.{placeSize, bitsOffset, bitBytes, mostBits, placeAt, countOf, held, encode, encodeAll, isPlace, isStore, bitsAt, bitsOf, burst}
 use Rattle.store.proofs.Laws.{length-held}
-use Rattle.store.proofs.Encode.{Sound, Lists, place-parts, place-law, store-law, store-parts, all-sound}
+use Rattle.store.proofs.Encode.{Sound, place-parts, place-law, store-law, store-parts, all-sound}
 use Rattle.store.proofs.Kept.{place-kept, place-back, is-kept, same-lists}
 use Rattle.store.proofs.Meters.{burst-at, burst-count}
 

@@ -3,22 +3,22 @@ use Rattle.store.specs.Places.{countOffset, bitBytes, mostBits, placeSiz
 use Prim.Native.Nat.{ℕ, zero, suc, _+_, _*_, _-_, _/_, _%_, _^_, _≤_, _<_}
 use mathlib.Core.Path.{_≡_, refl, sym, ap, _∙_, subst}
 use mathlib.Core.Bool.{Bool, true, false, cond}
-use mathlib.Core.List.{List, [], _∷_, _++_, append-assoc, append-nil}
+use mathlib.Core.List.{List, [], _∷_, _++_, append-assoc}
 use native.Mathlib.Nat.{add-zero}
 use native.Mathlib.Omega.{arith}
 use native.Mathlib.Numerals.{add-one}
-use lib.ListN.{length, take, drop, getD, set, length-set, length-drop, length-append, take-append-drop}
-use lib.Seq.{drop-cons, length-take-le, getD-take, getD-drop, take-all, drop-drop, take-add, set-split, split-at, take-at, drop-at}
-use lib.Pow.{pow-pos, pow-mono, pow-add}
+use lib.ListN.{length, take, drop, getD, set, length-append}
+use lib.Seq.{drop-cons, length-take-le, getD-drop, take-all, drop-drop, take-add, set-split, split-at, take-at, drop-at}
+use lib.Pow.{pow-mono}
 use lib.Dec.{ltb, leb, eqb}
-use borrow.Author.Tests.{ltb-true, ltb-false, leb-true, leb-false, eqb-true}
+use borrow.Author.Tests.{ltb-true, leb-true, eqb-true}
 use Rattle.bits.specs.Bits.{num, digits, Below}
 use Rattle.bits.proofs.Numbers.{num-append, num-digits, digits-num, length-digits, digits-below, num-lt, pow8}
 use Rattle.bits.proofs.Laws.{below-take}
 use Rattle.store.specs.Places.{countOf}
-use Rattle.records.specs.Block.{meters, bytesFor}
+use Rattle.records.specs.Block.{meters}
 use Rattle.store.specs.Places.{bitsOf, held, encode, encodeAll, isPlace, placesFrom, isStore, bitsAt, bitsFrom}
-use Rattle.store.specs.Appending.{appended, PlaceFits}
+use Rattle.store.specs.Appending.{appended}
 use Rattle.store.proofs.Laws.{length-held}
 
 -- what a test of tests says

@@ -1,29 +1,28 @@
 -- What a reader may ask of taking a block: the store still keeps its rules, its lists are the old ones with the new bits after them,
 -- and each meter's list depends only on the records that name it.
 use Rattle.store.specs.Places.{bitBytes, burst, fresh, mostBits, placeSize, storeSize}
-use Prim.Native.Nat.{ℕ, zero, suc, _+_, _*_, _-_, _/_, _%_, _^_, _≤_, _<_}
+use Prim.Native.Nat.{ℕ, zero, suc, _+_, _*_, _-_, _^_, _≤_, _<_}
 use mathlib.Core.Path.{_≡_, refl, sym, ap, _∙_, subst}
-use mathlib.Core.Bool.{Bool, true, false, cond}
-use mathlib.Core.Logic.{_⊎_, inl, inr, ⊎-elim}
+use mathlib.Core.Bool.{true}
+use mathlib.Core.Logic.{_⊎_, ⊎-elim}
 use mathlib.Core.List.{List, [], _∷_, _++_, map, flatten, append-assoc, append-nil}
 use native.Mathlib.Omega.{arith}
-use lib.ListN.{length, take, drop, getD, set, replicate, length-set, drop-of-length-le, replicate-append-replicate}
+use lib.ListN.{length, drop, getD, set, replicate, length-set, drop-of-length-le, replicate-append-replicate}
 use native.Mathlib.Numerals.{add-one}
 use Rattle.store.specs.declared.Room.the-variants as R
-use lib.Seq.{drop-cons, getD-set-same, getD-set-other, drop-drop, drop-at}
-use lib.Dec.{ltb, leb, eqb}
+use lib.Seq.{drop-cons, getD-set-same, getD-set-other}
 use borrow.Author.Tests.{le-leb, lt-ltb, eq-eqb, ne-eqb}
 use Rattle.bits.specs.Bits.{num, digits, Below}
-use Rattle.bits.proofs.Numbers.{digits-num, num-lt, digits-below, below-append}
+use Rattle.bits.proofs.Numbers.{digits-num, digits-below, below-append}
 use Rattle.store.specs.Places.{countOf}
 use Rattle.records.specs.Block.{meters, Entry}
 use Rattle.records.specs.Block.{parse}
 use Rattle.records.specs.Named.{named, brought}
 use Rattle.records.proofs.Cond.{yes, no}
-use Rattle.records.proofs.Walk.{Each, none, one, each-record}
+use Rattle.records.proofs.Walk.{Each, one, each-record}
 use Rattle.store.specs.Places.{bitsOf, held, encode, encodeAll, isPlace, placesFrom, isStore, bitsAt, bitsFrom}
 use Rattle.store.specs.Taking.{appendTo, appendAll, roomOf}
-use Rattle.store.proofs.Encode.{Sound, sound-low, all-sound, store-parts, length-bitsFrom, length-encode, length-encodeAll, count-of, held-num}
+use Rattle.store.proofs.Encode.{Sound, sound-low, all-sound, store-parts, length-bitsFrom, length-encodeAll, count-of, held-num}
 use Rattle.store.proofs.Pass.{same-or-not, room-parts, sound-append, sound-set}
 
 -- the place k of an encoding keeps the rules, and gives its list back

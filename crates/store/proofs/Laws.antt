@@ -3,22 +3,21 @@ use Rattle.store.specs.Places.{countOffset, bitsOffset, bitBytes, mostBi
 use Prim.Native.Nat.{ℕ, zero, suc, _+_, _*_, _-_, _/_, _%_, _^_, _≤_, _<_}
 use mathlib.Core.Path.{_≡_, refl, sym, ap, _∙_, subst}
 use mathlib.Core.Bool.{Bool, true, false, cond}
-use mathlib.Core.List.{List, [], _∷_, _++_, append-assoc, append-nil}
-use native.Mathlib.Nat.{mul-le-mul-left, mul-le-mul-right, mul-lt-mul-of-pos-left, add-zero}
+use mathlib.Core.List.{List, [], _∷_, _++_, append-assoc}
+use native.Mathlib.Nat.{mul-le-mul-left, add-zero}
 use native.Mathlib.Omega.{arith}
 use native.Mathlib.Numerals.{add-one}
-use lib.ListN.{length, take, drop, getD, set, length-set, length-drop, length-append, take-append-drop}
-use lib.Seq.{drop-cons, take-suc, take-suc-set, drop-set-lt, length-take-le, getD-take, getD-drop, take-all, drop-drop, take-add}
+use lib.ListN.{length, take, drop, set, length-set, length-drop, length-append}
+use lib.Seq.{take-suc-set, drop-set-lt, length-take-le, drop-drop}
 use lib.Pow.{pow-pos, pow-mono, pow-add}
 use Rattle.records.proofs.Cond.{yes, no}
-use lib.Dec.{ltb, leb, eqb}
-use borrow.Author.Tests.{ltb-true, ltb-false, leb-true, leb-false, lt-ltb, le-ltb, le-leb, lt-leb, eq-eqb, eqb-true}
-use Rattle.bits.specs.Bits.{num, digits, Below}
+use lib.Dec.{ltb}
+use borrow.Author.Tests.{le-leb, lt-leb, eq-eqb}
+use Rattle.bits.specs.Bits.{num, digits}
 use Rattle.bits.specs.Inner.{MoreFits}
-use Rattle.bits.proofs.Numbers.{num-append, num-split, num-lt, num-digits, digits-num, length-digits, pow8}
+use Rattle.bits.proofs.Numbers.{length-digits, pow8}
 use Rattle.store.specs.Places.{countOf}
-use Rattle.records.specs.Block.{bytesFor}
-use Rattle.store.specs.Places.{held, encode, encodeAll, isPlace, placesFrom, isStore, bitsAt, bitsFrom}
+use Rattle.store.specs.Places.{held, isPlace, placesFrom, isStore}
 use Rattle.store.specs.Appending.{appended, PlaceFits}
 
 pub length-held : (s : List ℕ) (at : ℕ) → at + placeSize ≤ length s → length (held s at) ≡ bitBytes

@@ -3,15 +3,15 @@
 --   meter-answer, meter-none   an answer, or a refusal, for the bytes of a place is one for the meter
 --   meter-unique               two answers that meet the contract are the same
 --   meter-burst                the answer depends on the meter's burst alone
-use Prim.Native.Nat.{ℕ, _+_, _*_, _^_, _≤_, _<_}
-use mathlib.Core.Path.{_≡_, refl, sym, ap, ap₂, _∙_, subst, subst₂}
+use Prim.Native.Nat.{ℕ, _<_}
+use mathlib.Core.Path.{_≡_, refl, sym, _∙_, subst, subst₂}
 use mathlib.Core.Bool.{Bool, true, false}
 use mathlib.Core.Logic.{_⊎_, inl, inr}
 use mathlib.Core.List.{List}
 use native.Mathlib.Omega.{arith}
 use lib.IntN.{ℤ, pos}
 use lib.ListN.{length}
-use Rattle.bits.specs.Bits.{num, value}
+use Rattle.bits.specs.Bits.{num}
 use Rattle.fractions.specs.Pairs.{Smallest, NoneFits}
 use Rattle.fractions.proofs.Order.{smallest-unique}
 use Rattle.records.specs.Block.{meters}

@@ -12,26 +12,26 @@
 --   runs-kept, runs-below, runs-bits, runs-count   the same over any sequence of blocks that were taken
 --   runs-fresh        from a fresh store a place has the bits of the records that name its meter, in the order they came, and nothing else
 --   runs-same         so its bytes depend on those bits alone
-use Prim.Native.Nat.{ℕ, _+_, _-_, _*_, _≤_, _<_}
-use mathlib.Core.Path.{_≡_, refl, sym, ap, _∙_, subst}
+use Prim.Native.Nat.{ℕ, _+_, _-_, _≤_, _<_}
+use mathlib.Core.Path.{_≡_, sym, ap, _∙_}
 use mathlib.Core.Bool.{true}
 use mathlib.Core.List.{List, [], _∷_, _++_, append-assoc, append-nil}
 use native.Mathlib.Omega.{arith}
 use lib.ListN.{length, getD, length-append}
 use Rattle.bits.specs.Bits.{Below}
-use Rattle.records.specs.Block.{meters, Entry, parse, formOf}
+use Rattle.records.specs.Block.{meters, parse, formOf}
 use Rattle.records.specs.Named.{named, ownBytes, brought, counts}
 use Rattle.records.specs.declared.Form.the-variants as F
 use Rattle.records.proofs.Walk.{each-record}
 use Rattle.records.proofs.Blocks.{form-parts, parse-append, bits-own}
 use Rattle.records.proofs.Brought.{brought-join, brought-none, brought-count, counts-append}
 use Rattle.store.specs.declared.Answer.the-variants as A
-use Rattle.store.specs.Places.{placeSize, placeAt, countOf, encode, encodeAll, isStore, bitsAt, bitsOf, fresh, burst}
+use Rattle.store.specs.Places.{placeAt, countOf, encode, isStore, bitsAt, bitsOf, fresh, burst}
 use Rattle.store.specs.Taking.{appendAll, takeOf}
 use Rattle.store.specs.Runs.{placeBytes, Runs, none, then, broughtBy, namedBy}
 use Rattle.store.proofs.Encode.{store-law, length-bitsFrom, place-of}
 use Rattle.store.proofs.Pass.{getD-bitsFrom, length-bitsAt}
-use Rattle.store.proofs.Kept.{by-meter, fresh-store, fresh-empty}
+use Rattle.store.proofs.Kept.{by-meter, fresh-empty}
 use Rattle.store.proofs.After.{taken-parts, take-sound, take-lists, take-kept, take-below}
 
 module _ (m : ℕ) (low : 0 < m) (high : m ≤ meters) where

@@ -1,6 +1,6 @@
 -- Where the room pass and the writing pass stand in the block, and what one record does.
 use Rattle.store.specs.Places.{mostBits, placeSize, storeSize}
-use Prim.Native.Nat.{ℕ, zero, suc, _+_, _*_, _-_, _/_, _%_, _^_, _≤_, _<_}
+use Prim.Native.Nat.{ℕ, zero, suc, _+_, _*_, _-_, _^_, _≤_, _<_}
 use mathlib.Core.Path.{_≡_, refl, sym, ap, _∙_, subst}
 use mathlib.Core.Bool.{Bool, true, false, cond}
 use mathlib.Core.Logic.{_⊎_, inl, inr, ⊎-elim}
@@ -8,13 +8,11 @@ use mathlib.Core.List.{List, [], _∷_, _++_}
 use native.Mathlib.Omega.{arith}
 use lib.ListN.{length, take, drop, getD, set, replicate, length-set, length-append}
 use lib.Seq.{getD-set-same, getD-set-other, length-take-le}
-use lib.Pow.{pow-pos, pow-add}
 use lib.ListN.{length-drop}
-use native.Mathlib.Nat.{mul-le-mul-left}
 use lib.Dec.{ltb, eqb}
 use borrow.Author.Tests.{ltb-false, lt-ltb, le-ltb, eqb-true, eqb-false}
-use Rattle.bits.specs.Bits.{num, digits, Below}
-use Rattle.bits.proofs.Numbers.{num-append, num-digits, length-digits, digits-below, below-append}
+use Rattle.bits.specs.Bits.{num, Below}
+use Rattle.bits.proofs.Numbers.{length-digits, digits-below, below-append}
 use Rattle.records.specs.declared.Record.{Record}
 use Rattle.records.specs.declared.Head.the-variants as H
 use Rattle.store.specs.Places.{placeAt, countOf}
@@ -22,12 +20,11 @@ use Rattle.records.specs.Block.{meters, bytesFor, payload, headAt, Entry, entry
 use Rattle.records.proofs.Standing.{Stands}
 use Rattle.records.proofs.Walk.{Rest, More, start, more}
 use Rattle.records.proofs.Cond.{yes, no}
-use Rattle.store.specs.declared.Room.{Room}
 use Rattle.store.specs.declared.Room.the-variants as R
 use Rattle.store.specs.Places.{bitsOf, held, encodeAll, isStore, bitsAt, bitsFrom}
 use Rattle.store.specs.Taking.{appendTo, appendAll, roomOf}
 use Rattle.store.specs.Appending.{appended, PlaceFits}
-use Rattle.store.proofs.Encode.{Sound, sound-low, Lists, store-law, all-sound, store-parts, length-bitsFrom, lists-long, count-of, held-num, append-law}
+use Rattle.store.proofs.Encode.{Sound, sound-low, Lists, all-sound, store-parts, length-bitsFrom, lists-long, count-of, held-num, append-law}
 
 pub same-or-not : (i k : ℕ) → (i ≡ k) ⊎ (i ≡ k → ⊥)
 same-or-not i k = go (eqb i k) refl

@@ -5,24 +5,23 @@
 --   shift-iff       q divides m p exactly where it divides m times a later numerator
 --   lowest-iff      q divides n p exactly where the denominator of p/q in lowest terms divides n
 --   round-iff       so, once inside, t steps come back exactly where 2^t = 1 modulo that denominator
-use mathlib.Core.Path.{_≡_, refl, sym, ap, _∙_, subst}
+use mathlib.Core.Path.{_≡_, refl, sym, ap, _∙_}
 use mathlib.Core.Logic.{_⊎_, inl, inr, _↔_}
 use Prim.Native.Nat.{ℕ, zero, suc, _+_, _-_, _*_, _/_, _%_, _^_, _≤_, _<_}
 use native.Mathlib.Omega.{arith}
-use native.Mathlib.Nat.{zero-mod, mod-eq-of-lt, mul-mod-right, mul-comm, eq-of-mul-eq-mul-left}
+use native.Mathlib.Nat.{zero-mod, mod-eq-of-lt, mul-mod-right, eq-of-mul-eq-mul-left}
 use lib.Pow.{pow-pos}
 use lib.IntN.{ℤ, pos, natAbs, _+ℤ_, _-ℤ_, _*ℤ_}
 use Rattle.integers.proofs.Finite.{le-or-gt}
 use Rattle.integers.proofs.Parts.{up, down, eq-of, natAbs-is, natAbs-*, pos-*}
-use Rattle.integers.specs.Numbers.{Coprime}
 use Rattle.integers.proofs.Coprime.{quot, euclid, lowest, two-cancel}
 use Rattle.integers.proofs.Modulo.{cong-of}
 use Rattle.integers.proofs.Order.{eq-by, z-*, z-sub}
-use Rattle.integers.proofs.Ring.{_⊕_, _⊗_, _⊖_, ring3, ring6, _≔_}
+use Rattle.integers.proofs.Ring.{_⊕_, _⊗_, _⊖_, ring6, _≔_}
 use Rattle.fractions.specs.Pairs.{Lowest}
 use Rattle.fractions.specs.Expansion.{nextNum, iterNum, digitsTo}
 use Rattle.fractions.proofs.Numerators.{step-cases, one-part, iter-add, expansion-splits, split-eq}
-use Rattle.fractions.proofs.Lowest.{part, Multiple, multiple, odd-left, lowest-multiple, some-factor}
+use Rattle.fractions.proofs.Lowest.{part, multiple, lowest-multiple, some-factor}
 use Rattle.periods.proofs.Orders.{power-one-iff}
 use Rattle.walking.specs.Inner.{dist}
 use Rattle.walking.proofs.LeadIn.{inside-parts, inside-stays}

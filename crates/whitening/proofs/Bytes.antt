@@ -6,15 +6,14 @@
 --   word-turn, byte-turn   a turn of each keeps it
 use mathlib.Core.Path.{_≡_, refl, sym, ap, _∙_, subst}
 use mathlib.Core.List.{List, _++_, append-assoc, append-nil}
-use Prim.Native.Nat.{ℕ, zero, suc, _+_, _-_, _*_, _/_, _%_, _^_, _≤_, _<_}
+use Prim.Native.Nat.{ℕ, suc, _+_, _-_, _*_, _/_, _%_, _^_, _≤_, _<_}
 use native.Mathlib.Omega.{arith}
-use native.Mathlib.Nat.{lt-suc-self, add-zero, add-suc, mul-le-mul-right, pow-suc}
+use native.Mathlib.Nat.{lt-suc-self}
 use native.Mathlib.Numerals.{add-one}
-use lib.Pow.{pow-add}
 use lib.ListN.{length, take, drop, length-set, drop-of-length-le}
 use lib.Seq.{drop-cons, drop-set-lt, take-suc-set, take-all}
 use Rattle.fractions.specs.Expansion.{iterNum, digitsTo}
-use Rattle.registers.specs.Registers.{Valid, emitted, nextOf, iterOf, outTo, numOf}
+use Rattle.registers.specs.Registers.{Valid, iterOf, outTo, numOf}
 use Rattle.registers.specs.declared.Register.{Register}
 use Rattle.registers.proofs.Validity.{valid-iter, iter-q}
 use Rattle.registers.proofs.States.{numerator-iter, emits, state-unique, numerator-small, iter-add, out-add, out-lt}

@@ -1,6 +1,6 @@
 -- `bits::fits` meets its contract: the whole bytes below the count do not decide, and past it every byte must be 0.
-use Prim.Native.Nat.{ℕ, _+_, _-_, _/_, _^_, _<_}
-use mathlib.Core.Path.{_≡_, sym, ap, _∙_}
+use Prim.Native.Nat.{ℕ, _-_, _/_, _^_, _<_}
+use mathlib.Core.Path.{sym, ap, _∙_}
 use native.Mathlib.Omega.{arith}
 use lib.ListN.{length}
 use Rattle.bits.proofs.Laws.{Left, left-start, left-small, left-no, left-all, fits-short}

@@ -1,14 +1,13 @@
 -- `fractions::lowest_terms` meets its contract: what divides both numbers most is divided out.
-use mathlib.Core.Path.{_≡_, sym, ap, ap₂, _∙_, subst}
-use Prim.Native.Nat.{ℕ, _/_, _<_, _≤_}
+use mathlib.Core.Path.{sym, _∙_, subst}
+use Prim.Native.Nat.{_/_}
 use native.Mathlib.Omega.{arith}
 use native.Mathlib.Nat.{div-le-self}
-use lib.IntN.{ℤ, pos, natAbs}
-use lib.Signed.{ltZ}
+use lib.IntN.{ℤ}
 use mir.Syntax.{w64}
 use mir.ValLaws.{toZ-ofZ}
 use Rattle.integers.proofs.Coprime.{gcd-parts}
-use Rattle.fractions.specs.Inner.{signedBy, Reduced}
+use Rattle.fractions.specs.Inner.{Reduced}
 use Rattle.fractions.proofs.Lowest.{reduced-by}
 use borrow.Author.Needs.{needs}
 use Rattle.fractions.proofs.lowest_terms.Statement.{statement}

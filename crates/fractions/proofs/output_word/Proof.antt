@@ -1,5 +1,5 @@
 -- `fractions::output_word` meets its contract: u = p times the inverse of q, modulo 2 ^ 64.
-use mathlib.Core.Path.{_≡_, subst}
+use mathlib.Core.Path.{subst}
 use native.Mathlib.Omega.{arith}
 use mir.Syntax.{w32}
 use mir.ValLaws.{toZ-ofZ}

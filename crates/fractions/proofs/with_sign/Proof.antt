@@ -1,7 +1,7 @@
 -- `fractions::with_sign` meets its contract, by the sign.
 use mathlib.Core.Path.{_≡_, sym, ap, _∙_}
 use native.Mathlib.Omega.{arith}
-use lib.IntN.{ℤ, pos, negℤ, natAbs, _-ℤ_}
+use lib.IntN.{ℤ, pos, negℤ, _-ℤ_}
 use Prim.Native.Nat.{ℕ, _<_, _^_}
 use mir.Syntax.{w64}
 use mir.Val.{SFits, toZ}

@@ -1,6 +1,6 @@
 -- `integers::gcd` meets its contract; the measure is the second argument, since a remainder is smaller than its divisor.
-use Prim.Native.Nat.{ℕ, _<_, _%_, _∣_}
-use mathlib.Core.Path.{_≡_, refl, sym, ap, _∙_, subst}
+use Prim.Native.Nat.{ℕ, _<_, _%_}
+use mathlib.Core.Path.{sym, subst}
 use native.Mathlib.Nat.{mod-lt, pos-of-ne-zero}
 use Rattle.integers.specs.Numbers.{IsGcd}
 use Rattle.integers.proofs.Coprime.{gcd-zero, gcd-step}

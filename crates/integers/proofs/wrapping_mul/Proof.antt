@@ -1,5 +1,5 @@
 -- `integers::wrapping_mul` meets its contract: what its products and its sum ensure, joined by the law of products by halves.
-use mathlib.Core.Path.{_≡_, sym, ap, ap₂, _∙_}
+use mathlib.Core.Path.{_≡_, ap, ap₂, _∙_}
 use Prim.Native.Nat.{ℕ, _+_, _*_, _/_, _%_}
 use native.Mathlib.Nat.{div-add-mod'}
 use borrow.Author.Needs.{needs}

@@ -1,14 +1,14 @@
 -- `records::judge` meets its contract: each return is the branch that the tests so far pick in the definition.
 use Prim.Native.Nat.{ℕ, _+_, _-_, _/_, _^_}
-use mathlib.Core.Path.{_≡_, refl, sym, ap, _∙_}
-use mathlib.Core.Bool.{Bool, true, false, cond}
+use mathlib.Core.Path.{_≡_, sym, ap, _∙_}
+use mathlib.Core.Bool.{Bool}
 use mathlib.Core.List.{List}
 use native.Mathlib.Omega.{arith}
-use lib.ListN.{length, take, drop}
+use lib.ListN.{take, drop}
 use lib.Dec.{ltb}
 use borrow.Author.Tests.{le-ltb, lt-ltb, eq-eqb, ne-eqb}
 use Rattle.bits.specs.Bits.{num}
-use Rattle.records.specs.Block.{judged, payload, bytesFor}
+use Rattle.records.specs.Block.{judged, payload}
 use Rattle.records.proofs.Cond.{yes, no}
 use borrow.Author.Needs.{needs}
 use Rattle.records.proofs.judge.Statement.{statement}

@@ -1,9 +1,9 @@
 -- `records::record_at` meets its contract: the two tests on the length, then the header by its three numbers.
-use Prim.Native.Nat.{ℕ, _+_, _-_, _/_, _^_}
-use mathlib.Core.Path.{_≡_, refl, sym, ap, _∙_}
+use Prim.Native.Nat.{ℕ, _-_}
+use mathlib.Core.Path.{_≡_, sym, _∙_}
 use mathlib.Core.List.{List}
 use borrow.Author.Tests.{le-ltb, lt-ltb, le-leb, lt-leb}
-use Rattle.records.specs.Block.{judged, headAt, twoBytes}
+use Rattle.records.specs.Block.{judged, headAt}
 use Rattle.records.proofs.Cond.{yes, no}
 use borrow.Author.Needs.{needs}
 use Rattle.records.proofs.record_at.Statement.{statement}

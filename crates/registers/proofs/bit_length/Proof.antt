@@ -1,5 +1,4 @@
 -- `registers::bit_length` meets its contract: all 32 bits but the zeros above the highest one.
-use Prim.Native.Nat.{ℕ, suc, _+_, _*_, _^_, _≤_, _<_}
 use native.Mathlib.Omega.{arith}
 use Rattle.registers.proofs.bit_length.Statement.{statement}
 use Rattle.registers.proofs.bit_length.Tie as tie

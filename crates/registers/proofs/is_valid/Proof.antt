@@ -1,5 +1,5 @@
 -- `registers::is_valid` meets its contract: each test fails one part of what valid means, and all together are it.
-use mathlib.Core.Path.{_≡_, sym, ap, _∙_, subst}
+use mathlib.Core.Path.{_≡_, ap, _∙_, subst}
 use Prim.Native.Nat.{ℕ, _+_, _^_, _≤_}
 use native.Mathlib.Omega.{arith}
 use borrow.Author.Needs.{needs}

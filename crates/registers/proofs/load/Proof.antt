@@ -1,7 +1,7 @@
 -- `registers::load` meets its contract: the rule for loading, with the pair tested before it and the memory after it.
 use borrow.Author.Needs.{needs}
 use mathlib.Core.Path.{_≡_, sym, ap, _∙_, subst}
-use Prim.Native.Nat.{ℕ, _^_, _≤_, _<_}
+use Prim.Native.Nat.{_^_, _≤_}
 use native.Mathlib.Omega.{arith}
 use lib.IntN.{ℤ, natAbs}
 use mir.Syntax.{w32, w64}
@@ -11,8 +11,6 @@ use Rattle.fractions.specs.Pairs.{Inside}
 use Rattle.fractions.specs.Answers.{Decides}
 use Rattle.registers.specs.Inner.{LoadsTo}
 use Rattle.registers.specs.Answers.{Loads, loaded, outside, wide}
-use Rattle.registers.specs.declared.Register.{Register}
-use Rattle.registers.proofs.Validity.{back32, back64}
 use Rattle.registers.proofs.load.Statement.{statement}
 use Rattle.registers.proofs.load.Tie as tie
 

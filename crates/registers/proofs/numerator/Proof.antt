@@ -1,7 +1,7 @@
 -- `registers::numerator` meets its contract: y is cells q - overflow 2^r, and a valid register's numbers are small enough for each product.
 use borrow.Author.Needs.{needs}
-use mathlib.Core.Path.{_≡_, sym, ap, ap₂, _∙_, subst}
-use Prim.Native.Nat.{ℕ, _+_, _*_, _^_, _≤_, _<_}
+use mathlib.Core.Path.{_≡_, sym, ap, ap₂, _∙_}
+use Prim.Native.Nat.{ℕ, _+_, _*_, _^_, _≤_}
 use native.Mathlib.Omega.{arith}
 use native.Mathlib.Nat.{mul-le-mul}
 use lib.Pow.{pow-mono}
@@ -10,7 +10,7 @@ use mir.Syntax.{w64}
 use mir.Val.{toZ, ofZ}
 use mir.ValLaws.{toZ-ofZ}
 use Rattle.registers.specs.Inner.{overTo}
-use Rattle.registers.specs.Registers.{cellCount, numOf}
+use Rattle.registers.specs.Registers.{cellCount}
 use Rattle.registers.proofs.Validity.{Facts, facts, back32}
 use Rattle.registers.proofs.Numerators.{numerator-over, over-le}
 use Rattle.registers.proofs.numerator.Statement.{statement}

@@ -1,18 +1,16 @@
 -- `registers::read_back` meets its contract: the lowest terms of a valid register's fraction are inside the limits exactly where |p| is.
 use borrow.Author.Needs.{needs}
-use mathlib.Core.Path.{_≡_, sym, ap, ap₂, _∙_, subst}
-use Prim.Native.Nat.{ℕ, _^_, _≤_, _<_}
+use mathlib.Core.Path.{_≡_, sym, ap, _∙_, subst}
 use native.Mathlib.Omega.{arith}
 use lib.IntN.{ℤ, natAbs}
 use mir.Syntax.{w32, w64}
 use mir.Val.{toZ, ofZ}
 use mir.ValLaws.{toZ-ofZ}
-use Rattle.fractions.specs.Pairs.{limit, Inside}
 use Rattle.fractions.specs.Answers.{Decides}
 use Rattle.fractions.specs.Inner.{Reduced}
 use Rattle.registers.specs.Registers.{Valid, numOf}
 use Rattle.registers.specs.Answers.{ReadsBack, pair, invalid, outside}
-use Rattle.registers.proofs.Validity.{facts, back64}
+use Rattle.registers.proofs.Validity.{back64}
 use Rattle.registers.proofs.States.{numerator-small}
 use Rattle.registers.proofs.read_back.Statement.{statement}
 use Rattle.registers.proofs.read_back.Tie as tie

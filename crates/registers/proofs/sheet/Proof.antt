@@ -1,10 +1,10 @@
 -- `registers::sheet` meets its contract: both figures are those of q alone.
 use borrow.Author.Needs.{needs}
-use mathlib.Core.Path.{_≡_, sym, ap, _∙_, subst}
-use Prim.Native.Nat.{ℕ, _+_, _-_, _^_, _≤_, _<_}
+use mathlib.Core.Path.{sym, subst}
+use Prim.Native.Nat.{ℕ, _-_}
 use native.Mathlib.Omega.{arith}
 use Rattle.fractions.specs.Answers.{Decides}
-use Rattle.registers.specs.Registers.{Valid, cellCount}
+use Rattle.registers.specs.Registers.{Valid}
 use Rattle.registers.specs.Answers.{Sheets, sheet, invalid}
 use Rattle.registers.proofs.Validity.{facts}
 use Rattle.registers.proofs.Sheets.{ones-next}

@@ -1,7 +1,7 @@
 -- `registers::state_of` meets its contract: the first r digits are the cells, and the memory is -(rest + overflow).
 use borrow.Author.Needs.{needs}
 use mathlib.Core.Path.{_≡_, sym, ap, ap₂, _∙_, subst}
-use Prim.Native.Nat.{ℕ, _+_, _*_, _%_, _^_, _≤_, _<_}
+use Prim.Native.Nat.{ℕ, _+_, _^_, _≤_}
 use native.Mathlib.Omega.{arith}
 use lib.IntN.{ℤ, pos, natAbs, negℤ, _+ℤ_}
 use mir.Syntax.{w64}

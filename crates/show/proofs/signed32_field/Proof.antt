@@ -5,9 +5,6 @@ use mir.Facts.{sfits-widen}
 use borrow.Author.Needs.{needs}
 use Rattle.show.proofs.signed32_field.Statement.{statement}
 use Rattle.show.proofs.signed32_field.Tie as tie
-use Rattle.show.proofs.signed32_field.Reads as reads
-use Rattle.show.proofs.signed32_field.Lts as lts
-use Rattle.show.proofs.signed_field.Reads as signed-field-reads
 
 -- src/lib.rt:31:18
 cast-signed-field : tie.Need-cast-signed-field

@@ -1,5 +1,4 @@
 -- `store::is_place` meets its contract: the count by its two bytes, then the test of `fits` on the bytes of the bits.
-use mathlib.Core.Path.{_≡_, refl, sym, ap, _∙_, subst}
 use Rattle.store.proofs.Laws.{place-no, place-yes}
 use borrow.Author.Needs.{needs}
 use Rattle.store.proofs.is_place.Statement.{statement}

@@ -1,11 +1,10 @@
 -- `store::is_store` meets its contract: the places from `at` on decide. The measure is the bytes left.
 use Rattle.store.specs.Places.{storeSize}
-use Prim.Native.Nat.{ℕ, _+_, _-_}
-use mathlib.Core.Path.{_≡_, refl, sym, ap, _∙_, subst}
+use Prim.Native.Nat.{_-_}
+use mathlib.Core.Path.{sym, _∙_}
 use native.Mathlib.Omega.{arith}
-use borrow.Author.Needs.{needs}
 use borrow.Author.Tests.{ne-eqb, not-true, not-false}
-use Rattle.records.proofs.Cond.{yes, no}
+use Rattle.records.proofs.Cond.{no}
 use Rattle.store.specs.Places.{isStore}
 use Rattle.store.proofs.Laws.{Checked, checked-start, checked-some, checked-no, checked-more, checked-all}
 use Rattle.store.proofs.is_store.Statement.{statement}

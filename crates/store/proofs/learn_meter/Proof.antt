@@ -1,5 +1,5 @@
 -- `store::learn_meter` meets its contract: the place's part of the store holds the meter's burst, and learning's answer for it is the answer.
-use mathlib.Core.Path.{_≡_, sym, _∙_, subst}
+use mathlib.Core.Path.{sym, _∙_, subst}
 use mathlib.Core.List.{List}
 use mathlib.Core.Logic.{inl, inr}
 use native.Mathlib.Omega.{arith}

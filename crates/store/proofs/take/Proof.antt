@@ -1,6 +1,5 @@
 -- `store::take` meets its contract: each return is the case of the definition that the store, the form and the room pick.
-use mathlib.Core.Path.{_≡_, sym, _∙_}
-use mathlib.Core.Bool.{Bool, true, false}
+use mathlib.Core.Path.{sym, _∙_}
 use borrow.Author.Needs.{needs}
 use borrow.Author.Tests.{not-true, not-false}
 use Rattle.store.proofs.Taking.{bad-store, bad-form, no-room, taken}

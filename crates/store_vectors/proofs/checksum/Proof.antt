@@ -1,8 +1,5 @@
 -- `store_vectors::checksum` is safe and ends: the sum stays below 65521.
-use Prim.Native.Nat.{ℕ, _+_, _-_, _*_, _≤_, _<_}
-use mathlib.Core.Path.{_≡_}
-use native.Mathlib.Omega.{arith}
-use lib.ListN.{length}
+use Prim.Native.Nat.{_-_, _≤_, _<_}
 use borrow.Author.Needs.{needs}
 use Rattle.store_vectors.proofs.checksum.Statement.{statement}
 use Rattle.store_vectors.proofs.checksum.Tie as tie

@@ -1,7 +1,6 @@
 -- `store_vectors::largest_block` is safe and ends: each record moves on by at most 70 bytes.
-use Prim.Native.Nat.{ℕ, _+_, _-_, _*_, _≤_, _<_}
+use Prim.Native.Nat.{_-_, _*_, _≤_}
 use mathlib.Core.Path.{_≡_}
-use native.Mathlib.Omega.{arith}
 use lib.ListN.{length}
 use borrow.Author.Needs.{needs}
 use Rattle.store_vectors.proofs.largest_block.Statement.{statement}

@@ -1,8 +1,5 @@
 -- `store_vectors::print_places` is safe and ends: 32 places.
-use Prim.Native.Nat.{ℕ, _+_, _-_, _*_, _≤_, _<_}
-use mathlib.Core.Path.{_≡_}
-use native.Mathlib.Omega.{arith}
-use lib.ListN.{length}
+use Prim.Native.Nat.{_-_, _≤_}
 use borrow.Author.Needs.{needs}
 use Rattle.store_vectors.proofs.print_places.Statement.{statement}
 use Rattle.store_vectors.proofs.print_places.Tie as tie

@@ -1,7 +1,6 @@
 -- `store_vectors::put_record` is safe and ends: it writes at most 64 bytes behind the header.
-use Prim.Native.Nat.{ℕ, _+_, _-_, _*_, _≤_, _<_}
+use Prim.Native.Nat.{_-_, _≤_}
 use mathlib.Core.Path.{_≡_}
-use native.Mathlib.Omega.{arith}
 use lib.ListN.{length}
 use borrow.Author.Needs.{needs}
 use Rattle.store_vectors.proofs.put_record.Statement.{statement}

@@ -1,12 +1,10 @@
 -- `registers::digits::one_more` meets its contract: a digit of weight 2^i stands above the i digits there.
 use borrow.Author.Needs.{needs}
-use mathlib.Core.Path.{_≡_, sym, ap, ap₂, _∙_}
-use Prim.Native.Nat.{ℕ, _+_, _*_, _^_, _≤_, _<_}
+use mathlib.Core.Path.{_≡_, ap, ap₂, _∙_}
+use Prim.Native.Nat.{ℕ, _+_, _*_, _^_, _≤_}
 use native.Mathlib.Omega.{arith}
 use lib.Pow.{pow-mono}
-use lib.IntN.{ℤ, natAbs}
 use mir.Syntax.{w64}
-use mir.Val.{toZ, ofZ}
 use mir.ValLaws.{toZ-ofZ}
 use Rattle.integers.specs.Numbers.{oddZ}
 use Rattle.integers.proofs.Sizes.{odd-lt}

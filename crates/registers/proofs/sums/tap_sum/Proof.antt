@@ -1,6 +1,6 @@
 -- `registers::sums::tap_sum` meets its contract: after k turns the sum is that over the first k taps, and at most k.
-use mathlib.Core.Path.{_≡_, sym, ap, _∙_}
-use Prim.Native.Nat.{ℕ, _+_, _-_, _*_, _/_, _%_, _^_, _≤_}
+use mathlib.Core.Path.{_≡_, ap, _∙_}
+use Prim.Native.Nat.{_-_, _≤_}
 use native.Mathlib.Omega.{arith}
 use Rattle.registers.specs.Inner.{tapsTo}
 use Rattle.registers.proofs.Validity.{taps-more, bit-fits, more-fits, more-le}
