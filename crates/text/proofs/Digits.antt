@@ -114,7 +114,7 @@ length-signed k (negsuc n) h = omega (arith, length-decimal k (suc n) h)
 -- ---- its bytes
 
 -- every byte is above b: the digits are above the sign, and both above the space and the line end
-pub Above : ℕ → List ℕ → Type 0
+unfoldable pub Above : ℕ → List ℕ → Type 0
 Above b [] = Unit {0}
 Above b (x ∷ xs) = (b < x) × Above b xs
 

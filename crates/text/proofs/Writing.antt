@@ -50,3 +50,8 @@ copied old at text new h e =
 
 pub wrote-unique : {old : List ℕ} {at : ℕ} {text new new' : List ℕ} {r r' : ℕ} → Wrote old at text new r → Wrote old at text new' r' → (new ≡ new') × (r ≡ r')
 wrote-unique w v = (w .new-is ∙ sym (v .new-is), w .r-is ∙ sym (v .r-is))
+
+-- what was written ends inside bytes that are as many as they were
+pub wrote-within : {old : List ℕ} {at : ℕ} {text new : List ℕ} {r : ℕ} → Wrote old at text new r → at ≤ length old → length new ≡ length old → r ≤ length new
+wrote-within {old} {at} {text} w h e =
+    omega (arith, w .r-is, simp (length-append, length-drop, length-take-le at old h) at (ap length (w .new-is)))
