@@ -1,0 +1,45 @@
+// The listing program: a block on standard input into a fresh store; the header and the line of each meter with bits, or the refusal.
+// It only reads, calls and writes: what it prints is decided by `store::take` and by `listing`.
+
+// One byte more than the longest block, so that a longer input is seen and refused, and not cut.
+const MOST: usize = 16385;
+
+fn print_header() {
+    let mut out = [0u8; 96];
+    let n = listing::header(&mut out);
+    io::write_all(1, &out[..n]);
+}
+
+fn print_line(store: &[u8], meter: u32) {
+    let mut out = [0u8; 96];
+    let n = listing::line(store, meter, &mut out);
+    io::write_all(1, &out[..n]);
+}
+
+fn print_meters(store: &[u8]) {
+    print_header();
+    let mut meter: u32 = 1;
+    while meter <= 32 {
+        print_line(store, meter);
+        meter += 1;
+    }
+}
+
+fn print_refusal(answer: store::Answer) {
+    let mut out = [0u8; 96];
+    let n = listing::refused(store::number(answer), store::place(answer), &mut out);
+    io::write_all(1, &out[..n]);
+}
+
+fn main() {
+    let mut block = [0u8; MOST];
+    let n = io::read_full(0, &mut block);
+    let mut store = [0u8; store::STORE_SIZE];
+    let answer = store::take(&mut store, &block[..n]);
+    match answer {
+        store::Answer::Taken => print_meters(&store),
+        store::Answer::NotAStore => print_refusal(answer),
+        store::Answer::Malformed(_) => print_refusal(answer),
+        store::Answer::NoRoom(_) => print_refusal(answer),
+    }
+}

@@ -1,0 +1,86 @@
+-- What learning answers for a meter decides which line it has.
+use mathlib.Core.Path.{_≡_, refl, sym, ap, _∙_, subst}
+use mathlib.Core.Bool.{Bool, true, false}
+use mathlib.Core.Logic.{_⊎_, inl, inr}
+use mathlib.Core.List.{List, [], _∷_, _++_, append-assoc}
+use Prim.Native.Nat.{ℕ, _+_, _≤_, _<_}
+use native.Mathlib.Omega.{arith}
+use lib.IntN.{ℤ, pos}
+use lib.ListN.{length}
+use Rattle.fractions.specs.Pairs.{Inside}
+use Rattle.fractions.specs.declared.Fraction.{Fraction}
+use Rattle.store.specs.Places.{isStore, burst}
+use Rattle.store.specs.ByMeter.{Asked, LearnsMeter, meterNumber, meterP, meterQ}
+use Rattle.store.specs.ByMeter as M
+use Rattle.store.specs.declared.ByMeter.{ByMeter}
+use Rattle.store.specs.declared.ByMeter.the-variants as Answers
+use Rattle.io.specs.Counts.{Counts}
+use Rattle.text.specs.Text.{Wrote, decimalOf, signedOf}
+use Rattle.text.proofs.Writing.{wrote-then}
+use Rattle.listing.proofs.Rooms.{counted}
+use Rattle.listing.specs.Lines.{row, space, lineEnd, noneWord, HasBits, Lines, silent, fraction, none, Writes}
+use Rattle.listing.specs.Pieces.{Piece, spaced, Rest, rest}
+
+abbrev learns : List ℕ → ℕ → ByMeter → Type 0
+learns s m a = LearnsMeter s m (meterNumber a) (meterP a) (meterQ a)
+
+module _ {s : List ℕ} {m : ℕ} {a : ByMeter} (h : learns s m a) where
+  pub learns-answer : {f : Fraction} → a ≡ Answers.Answer f → LearnsMeter s m 0 (f .p) (f .q)
+  learns-answer e = subst (learns s m) e h
+
+  pub learns-none : a ≡ Answers.NoneInside → LearnsMeter s m 3 (pos 0) 0
+  learns-none e = subst (learns s m) e h
+
+-- ---- a meter with bits, or not
+
+pub answer-asked : {s : List ℕ} {m : ℕ} {p : ℤ} {q : ℕ} → LearnsMeter s m 0 p q → Asked s m
+answer-asked (M.answer a f) = a
+
+pub answer-inside : {s : List ℕ} {m : ℕ} {p : ℤ} {q : ℕ} → LearnsMeter s m 0 p q → Inside p q
+answer-inside (M.answer a f) = f .inside
+
+pub none-asked : {s : List ℕ} {m : ℕ} → LearnsMeter s m 3 (pos 0) 0 → Asked s m
+none-asked (M.none a f) = a
+
+damaged-not : {s : List ℕ} {m : ℕ} → LearnsMeter s m 10 (pos 0) 0 → HasBits s m → ⊥
+damaged-not {s} (M.damaged d) b = let z : true ≡ false = sym (b .asked .store) ∙ d in let y : _≡_ {A = ℕ} 0 1 = cc in omega arith
+
+unknown-not : {s : List ℕ} {m : ℕ} → LearnsMeter s m 14 (pos 0) 0 → HasBits s m → ⊥
+unknown-not (M.unknown e (inl z)) b = omega (arith, b .asked .low)
+unknown-not (M.unknown e (inr l)) b = omega (arith, b .asked .high)
+
+-- ---- the lines
+
+pub both : {P : List ℕ → Type 0} {old new : List ℕ} {r : ℕ} → Writes P old 0 new r → length new ≡ length old → Writes P old 0 new r × Counts r new
+both w e = (w, counted (w .wrote) e)
+
+silence : {s : List ℕ} {m : ℕ} (old : List ℕ) → (HasBits s m → ⊥) → Writes (Lines s m) old 0 old 0
+silence old n = record { text = []; is = silent n; wrote = record { new-is = refl; r-is = refl } }
+
+pub line-empty : (s : List ℕ) (m : ℕ) {n : ℕ} (old : List ℕ) → n ≡ length (burst s m) → n ≡ 0 → Writes (Lines s m) old 0 old 0
+line-empty s m old e z = silence {s = s} {m = m} old (λ b. omega (arith, b .some))
+
+pub line-damaged : {s : List ℕ} {m : ℕ} {a : ByMeter} (old : List ℕ) → learns s m a → a ≡ Answers.DamagedStore → Writes (Lines s m) old 0 old 0
+line-damaged {s} {m} old h e = silence old (damaged-not (subst (learns s m) e h))
+
+pub line-unknown : {s : List ℕ} {m : ℕ} {a : ByMeter} (old : List ℕ) → learns s m a → a ≡ Answers.UnknownMeter → Writes (Lines s m) old 0 old 0
+line-unknown {s} {m} old h e = silence old (unknown-not (subst (learns s m) e h))
+
+bits-of : {s : List ℕ} {m n : ℕ} → Asked s m → n ≡ length (burst s m) → (n ≡ 0 → ⊥) → HasBits s m
+bits-of a e z = record { asked = a; some = omega arith }
+
+fraction-text : {s : List ℕ} {m n : ℕ} {p : ℤ} {q : ℕ} {t : List ℕ} → HasBits s m → n ≡ length (burst s m) → LearnsMeter s m 0 p q → Rest p q t
+    → Lines s m (spaced (decimalOf m) ++ spaced (decimalOf n) ++ t)
+fraction-text {s} {m} b e h (rest l two) = rw e (subst (Lines s m) (sym (simp append-assoc)) (fraction b h l two))
+
+none-text : {s : List ℕ} {m n : ℕ} → HasBits s m → n ≡ length (burst s m) → LearnsMeter s m 3 (pos 0) 0
+    → Lines s m (spaced (decimalOf m) ++ spaced (decimalOf n) ++ (noneWord ++ (lineEnd ∷ [])))
+none-text {s} {m} b e h = rw e (subst (Lines s m) (sym (simp append-assoc)) (none b h))
+
+module _ (s : List ℕ) (m n : ℕ) {old mid new : List ℕ} {r r' : ℕ} (e : n ≡ length (burst s m)) (z : n ≡ 0 → ⊥)
+    (w : Piece old 0 (spaced (decimalOf m) ++ spaced (decimalOf n)) 22 mid r) (room : 22 ≤ length old) where
+  pub line-fraction : {p : ℤ} {q : ℕ} → LearnsMeter s m 0 p q → Writes (Rest p q) mid r new r' → Writes (Lines s m) old 0 new r'
+  line-fraction h v = record { text = _; is = fraction-text (bits-of (answer-asked h) e z) e h (v .is); wrote = wrote-then (w .wrote) (let k = w .short in omega arith) (v .wrote) }
+
+  pub line-none : LearnsMeter s m 3 (pos 0) 0 → Wrote mid r (noneWord ++ (lineEnd ∷ [])) new r' → Writes (Lines s m) old 0 new r'
+  line-none h v = record { text = _; is = none-text (bits-of (none-asked h) e z) e h; wrote = wrote-then (w .wrote) (let k = w .short in omega arith) v }
