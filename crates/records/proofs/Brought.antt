@@ -1,5 +1,6 @@
 -- What records bring to a meter, in their order.
 --
+--   named-append     the records of two lists that name a meter are those of the first, then those of the second
 --   brought-append   the bits of more records come after those of the first
 --   brought-moved    where the records stand in the block makes no difference
 --   brought-join     a block behind another brings its bits after those of the first
@@ -18,7 +19,7 @@ use Rattle.records.specs.Block.{Entry, Parsed, parse}
 use Rattle.records.specs.Named.{named, brought, counts, moved}
 use Rattle.records.proofs.Blocks.{parse-append}
 
-named-append : (m : ℕ) (es fs : List Entry) → named m (es ++ fs) ≡ named m es ++ named m fs
+pub named-append : (m : ℕ) (es fs : List Entry) → named m (es ++ fs) ≡ named m es ++ named m fs
 unfolding named
 named-append m [] fs = refl
 named-append m (e ∷ es) fs = go (eqb (e .meter) m) (named-append m es fs)
