@@ -1,4 +1,4 @@
--- The words that the laws on blocks are stated in; no contract cites them.
+-- The words that the laws on blocks are stated in. Of the contracts only the two-antenna reader's cite one: `named`.
 --
 --   named m es         the records that name a meter, in block order
 --   bytesOf block e    a record's own bytes: from its first to the last before the next record
