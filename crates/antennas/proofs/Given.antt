@@ -64,7 +64,7 @@ pub record Given (antenna : ℕ) (block : List ℕ) (meter ordinal : ℕ) (x : S
 not-found : (x : Seen) (y : Refusal) → A.Malformed y ≡ A.Found x → ⊥
 not-found x y e = let z : _≡_ {A = ℕ} 0 1 = cc in omega arith
 
-asked-given : {antenna : ℕ} {block : List ℕ} {meter ordinal : ℕ} {r : About} {refusal place count which start size : ℕ} → formOf block ≡ F.Sound
+pub asked-given : {antenna : ℕ} {block : List ℕ} {meter ordinal : ℕ} {r : About} {refusal place count which start size : ℕ} → formOf block ≡ F.Sound
     → Asked antenna block meter ordinal r refusal place count which start size → (x : Seen) → r ≡ A.Found x → Given antenna block meter ordinal x
 asked-given s (found {e} m n) x q = record { sound = s; is-meter = m; entry = e; nth = n; seen = cc }
 asked-given s (bad-meter m) x q = absurd (let z : _≡_ {A = ℕ} 0 1 = cc in omega arith)
@@ -83,9 +83,8 @@ pub read-given : (first second : List ℕ) (meter ordinal : ℕ) (x : Seen) → 
 read-given first second meter ordinal x h = reads-given h x refl
 
 -- ---- its stretch
-pub record Stretch (block : List ℕ) (x : Seen) : Type 0 where
-  pub entry : Entry
-  pub standing : Standing block entry
+pub record Stretch (block : List ℕ) (e : Entry) (x : Seen) : Type 0 where
+  pub standing : Standing block e
   pub count-is : x .count ≡ standing .of .count
   pub start-is : x .start ≡ standing .of .start
   pub length-is : x .length ≡ bytesFor (x .count)
@@ -98,7 +97,7 @@ module _ {antenna : ℕ} {block : List ℕ} {meter ordinal : ℕ} {x : Seen} (g 
   pub given-antenna : x .antenna ≡ antenna
   given-antenna = ap (λ (y : Seen). y .antenna) (g .seen)
 
-  pub given-stretch : Stretch block x
+  pub given-stretch : Stretch block (g .entry) x
   given-stretch =
       let w = given-standing in
       let s = w .stands in
@@ -108,7 +107,6 @@ module _ {antenna : ℕ} {block : List ℕ} {meter ordinal : ℕ} {x : Seen} (g 
       let a : x .start ≡ w .of .start = ap (λ (y : Seen). y .start) (g .seen) ∙ ap (λ (e : Entry). startOf e) (sym (w .entry-is)) ∙ sym (s .starts) in
       let l : x .length ≡ bytesFor (x .count) = ap (λ (y : Seen). y .length) (g .seen) ∙ ap (λ (y : Seen). bytesFor (y .count)) (sym (g .seen)) in
       record {
-        entry = g .entry;
         standing = w;
         count-is = c;
         start-is = a;
