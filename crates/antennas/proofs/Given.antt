@@ -61,9 +61,6 @@ pub record Given (antenna : ℕ) (block : List ℕ) (meter ordinal : ℕ) (x : S
   pub nth : Nth ordinal (named meter (parse block .records)) entry
   pub seen : x ≡ seenOf antenna entry
 
-not-found : (x : Seen) (y : Refusal) → A.Malformed y ≡ A.Found x → ⊥
-not-found x y e = let z : _≡_ {A = ℕ} 0 1 = cc in omega arith
-
 pub asked-given : {antenna : ℕ} {block : List ℕ} {meter ordinal : ℕ} {r : About} {refusal place count which start size : ℕ} → formOf block ≡ F.Sound
     → Asked antenna block meter ordinal r refusal place count which start size → (x : Seen) → r ≡ A.Found x → Given antenna block meter ordinal x
 asked-given s (found {e} m n) x q = record { sound = s; is-meter = m; entry = e; nth = n; seen = cc }
@@ -77,7 +74,7 @@ reads-given : {first second : List ℕ} {meter ordinal : ℕ} {r : About} {refus
     → Reads first second meter ordinal r refusal place count which start size → (x : Seen) → r ≡ A.Found x → GivenIn first second meter ordinal x
 reads-given (by-first s a) x q = inl (asked-given s a x q)
 reads-given (by-second t s a) x q = inr (asked-given s a x q)
-reads-given (neither {x = y} t s) x q = absurd (not-found x y q)
+reads-given (neither t s) x q = absurd (let z : _≡_ {A = ℕ} 0 1 = cc in omega arith)
 
 pub read-given : (first second : List ℕ) (meter ordinal : ℕ) (x : Seen) → Read first second meter ordinal (A.Found x) → GivenIn first second meter ordinal x
 read-given first second meter ordinal x h = reads-given h x refl
