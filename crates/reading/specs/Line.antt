@@ -1,0 +1,65 @@
+-- What the program `read` prints for one question: "antenna, bit count and the payload in hexadecimal, or "refused N" with " at P" where there is a place".
+--
+--   hexOf bytes          two digits for each byte, 0 to 9 and A to F, the high one first
+--   lineOf r part        the line for an answer and its part, without the line end
+--   lineSize             the most bytes that a line takes
+--   Prints first second meter ordinal old new r   `new` is `old` with that line over its first bytes, and r is the line's length,
+--                        which `new` has room for
+use Prim.Native.Nat.{ℕ, _+_, _/_, _%_}
+use mathlib.Core.Bool.{cond}
+use mathlib.Core.List.{List, [], _∷_, _++_}
+use lib.Dec.{ltb}
+use Rattle.io.specs.Counts.{Counts}
+use Rattle.text.specs.Text.{decimalOf, Wrote}
+use Rattle.records.specs.Block.{numberOf, placeOf}
+use Rattle.antennas.specs.declared.About.{About}
+use Rattle.antennas.specs.declared.About.the-variants as A
+use Rattle.antennas.specs.Antennas.{Read, Part}
+
+-- the ASCII codes of the digits: 48 for 0, 65 for A
+abbrev pub hexDigit : ℕ → ℕ
+hexDigit n = cond (ltb n 10) (48 + n) (55 + n)
+
+abbrev pub hexByte : ℕ → List ℕ
+hexByte b = hexDigit (b / 16) ∷ hexDigit (b % 16) ∷ []
+
+unfoldable pub hexOf : List ℕ → List ℕ
+hexOf [] = []
+hexOf (b ∷ bs) = hexByte b ++ hexOf bs
+
+-- "one space between"; the words "refused " and " at "
+abbrev pub space : List ℕ
+space = 32 ∷ []
+
+abbrev pub refusedWord : List ℕ
+refusedWord = 114 ∷ 101 ∷ 102 ∷ 117 ∷ 115 ∷ 101 ∷ 100 ∷ 32 ∷ []
+
+abbrev pub atWord : List ℕ
+atWord = 32 ∷ 97 ∷ 116 ∷ 32 ∷ []
+
+abbrev pub foundLine : ℕ → ℕ → List ℕ → List ℕ
+foundLine antenna count part = ((decimalOf antenna ++ space) ++ (decimalOf count ++ space)) ++ hexOf part
+
+abbrev pub refusedLine : ℕ → List ℕ
+refusedLine number = refusedWord ++ decimalOf number
+
+abbrev pub placedLine : ℕ → ℕ → List ℕ
+placedLine number place = (refusedLine number ++ atWord) ++ decimalOf place
+
+abbrev pub lineOf : About → List ℕ → List ℕ
+lineOf (A.Found x) part = foundLine (x .antenna) (x .count) part
+lineOf (A.Malformed x) part = placedLine (numberOf x) (placeOf x)
+lineOf A.BadMeter part = refusedLine 14
+lineOf A.NoRecord part = refusedLine 18
+
+-- two numbers of at most ten digits, each with its space, and two digits for each of 64 bytes
+abbrev pub lineSize : ℕ
+lineSize = 150
+
+pub record Prints (first second : List ℕ) (meter ordinal : ℕ) (old new : List ℕ) (r : ℕ) : Type 0 where
+  pub about : About
+  pub read : Read first second meter ordinal about
+  pub part : List ℕ
+  pub part-is : Part first second meter ordinal part
+  pub wrote : Wrote old 0 (lineOf about part) new r
+  pub counts : Counts r new
