@@ -1,8 +1,8 @@
 -- Each contract determines the answer: any two flat answers that meet it are equal. Of `cj_whiten` that is `whitens-unique` itself.
 --
 --   learn-unique, learn-meter-unique, read-back-unique, load-unique, step-unique, walk-unique, sheet-unique, period-unique,
---   output-word-unique, take-unique
-use mathlib.Core.Path.{_≡_, refl, sym, _∙_}
+--   output-word-unique, take-unique, read-unique
+use mathlib.Core.Path.{_≡_, refl, sym, ap, _∙_}
 use mathlib.Core.List.{List}
 use Prim.Native.Nat.{ℕ}
 use native.Mathlib.Omega.{arith}
@@ -20,7 +20,9 @@ use Rattle.store.specs.ByMeter.{LearnsMeter}
 use Rattle.store.proofs.Learnt.{meter-unique}
 use Rattle.walking.specs.Walks.{Walks, walked, invalid, past}
 use Rattle.walking.proofs.Walks.{loops-unique}
-use Rattle.capi.specs.Flat.{registerOf, Takes}
+use Rattle.antennas.specs.Antennas.{readNumber, readPlace, readCount, readAntenna, readStart, readLength}
+use Rattle.antennas.proofs.Unique.{reads-unique, reads-numbers}
+use Rattle.capi.specs.Flat.{registerOf, Takes, Reading}
 use Rattle.capi.specs.declared.Fraction.{Fraction}
 use Rattle.capi.specs.declared.Loaded.{Loaded}
 use Rattle.capi.specs.declared.Stepped.{Stepped}
@@ -29,6 +31,7 @@ use Rattle.capi.specs.declared.Storage.{Storage}
 use Rattle.capi.specs.declared.Entry.{Entry}
 use Rattle.capi.specs.declared.Word.{Word}
 use Rattle.capi.specs.declared.Taken.{Taken}
+use Rattle.capi.specs.declared.Read.{Read}
 
 -- ---- pairs
 fraction-same : (r s : Fraction) → r .refusal ≡ s .refusal → r .p ≡ s .p → r .q ≡ s .q → r ≡ s
@@ -88,3 +91,20 @@ take-unique store block r s t u h k =
     let number = h .number-is ∙ sym (k .number-is) in
     let place = h .place-is ∙ sym (k .place-is) in
     (λ i. record { refusal = number i; place = place i }, h .store-is ∙ sym (k .store-is))
+
+-- ---- a record of two antennas' blocks
+abbrev ReadFlat : List ℕ → List ℕ → ℕ → ℕ → Read → Type 0
+ReadFlat first second meter ordinal r = Reading first second meter ordinal (r .refusal) (r .place) (r .count) (r .antenna) (r .start) (r .length)
+
+pub read-unique : (first second : List ℕ) (meter ordinal : ℕ) (r s : Read) → ReadFlat first second meter ordinal r → ReadFlat first second meter ordinal s → r ≡ s
+read-unique first second meter ordinal r s h k =
+    let e = reads-unique (h .reads) (k .reads) in
+    let v = reads-numbers (h .reads) in
+    let w = reads-numbers (k .reads) in
+    let refusal = v .refusal-is ∙ ap readNumber e ∙ sym (w .refusal-is) in
+    let place = v .place-is ∙ ap readPlace e ∙ sym (w .place-is) in
+    let count = v .count-is ∙ ap readCount e ∙ sym (w .count-is) in
+    let antenna = v .antenna-is ∙ ap readAntenna e ∙ sym (w .antenna-is) in
+    let start = v .start-is ∙ ap readStart e ∙ sym (w .start-is) in
+    let size = v .length-is ∙ ap readLength e ∙ sym (w .length-is) in
+    λ i. record { refusal = refusal i; place = place i; count = count i; antenna = antenna i; start = start i; length = size i }

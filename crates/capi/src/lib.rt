@@ -8,7 +8,7 @@ ghost use Rattle.registers.specs.Answers.{Steps, Loads, ReadsBack, Sheets};
 ghost use Rattle.store.specs.ByMeter.{LearnsMeter};
 ghost use Rattle.walking.specs.Walks.{Walks};
 ghost use Rattle.whitening.specs.Whitening.{Whitens};
-ghost use Rattle.capi.specs.Flat.{registerOf, noFraction, noRegister, noWalk, Takes};
+ghost use Rattle.capi.specs.Flat.{registerOf, noFraction, noRegister, noWalk, noRecord, Takes, Reading};
 use registers::Register;
 
 // A pair, learned or read back.
@@ -76,6 +76,17 @@ pub struct Taken {
     pub place: u32,
 }
 
+// A record of two antennas' blocks: its bits, its antenna, and the part of that antenna's block that holds them.
+#[repr(C)]
+pub struct Read {
+    pub refusal: u32,
+    pub place: u32,
+    pub count: u32,
+    pub antenna: u32,
+    pub start: u32,
+    pub length: u32,
+}
+
 // A refusal, where a pair was asked for.
 fn no_fraction(refusal: u32) -> Fraction
     ensures { λ r. ⌜ r ≡ noFraction refusal ⌝ }
@@ -108,6 +119,20 @@ fn no_walk(refusal: u32) -> Walked
         lead: 0,
         period: 0,
         sum: 0,
+    }
+}
+
+// A refusal, where a record was asked for.
+fn no_record(refusal: u32, place: u32) -> Read
+    ensures { λ r. ⌜ r ≡ noRecord refusal place ⌝ }
+{
+    Read {
+        refusal: refusal,
+        place: place,
+        count: 0,
+        antenna: 0,
+        start: 0,
+        length: 0,
     }
 }
 
@@ -288,5 +313,25 @@ pub extern "C" fn cj_take(store: &mut [u8], block: &[u8]) -> Taken
     Taken {
         refusal: store::number(answer),
         place: store::place(answer) as u32,
+    }
+}
+
+// One record of one meter, out of the first antenna's block or the second's. No number is above 16,384: each fits 32 bits.
+#[no_mangle]
+pub extern "C" fn cj_read(first: &[u8], second: &[u8], meter: u32, ordinal: u32) -> Read
+    ensures { λ r. ⌜ Reading (now (first .entry)) (now (second .entry)) meter ordinal (r .refusal) (r .place) (r .count) (r .antenna) (r .start) (r .length) ⌝ }
+{
+    match antennas::read_about(first, second, meter, ordinal) {
+        antennas::About::Found(x) => Read {
+            refusal: 0,
+            place: 0,
+            count: x.count as u32,
+            antenna: x.antenna,
+            start: x.start as u32,
+            length: x.length as u32,
+        },
+        antennas::About::Malformed(x) => no_record(records::number(x), records::place(x) as u32),
+        antennas::About::BadMeter => no_record(14, 0),
+        antennas::About::NoRecord => no_record(18, 0),
     }
 }
