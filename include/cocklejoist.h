@@ -24,7 +24,7 @@
  *
  * Refusals
  *   Every answer begins with `refusal`: CJ_OK, or the number of the rule that was broken. On a refusal nothing lent has changed, every
- *   other number of the answer is 0, and a register that was handed over by value comes back as it was given. Where several
+ *   other number of the answer but a `place` is 0, and a register that was handed over by value comes back as it was given. Where several
  *   rules are broken, the function's comment lists its refusals in the order in which they are tried.
  */
 #ifndef COCKLEJOIST_H
@@ -68,7 +68,8 @@ enum {
     CJ_METER_WRONG = 14,        /* meter number not 1 to CJ_METERS */
     CJ_BIT_COUNT_WRONG = 15,    /* bit count 0 or above CJ_RECORD_BITS */
     CJ_SPARE_BIT_SET = 16,      /* spare bit of a record's last byte set */
-    CJ_PLACE_FULL = 17          /* meter's count would pass CJ_MOST_BITS */
+    CJ_PLACE_FULL = 17,         /* meter's count would pass CJ_MOST_BITS */
+    CJ_NO_RECORD = 18           /* the block used has no such record, or the ordinal is 0 */
 };
 
 /* A register, handed over by value. Only cj_whiten takes it by pointer, and changes it. */
@@ -134,6 +135,20 @@ typedef struct cj_taken {
     uint32_t refusal;
     uint32_t place;
 } cj_taken;
+
+/*
+ * A record of two antennas' blocks: its bit count, the antenna that it came from, 1 or 2, and its payload: `length` bytes from byte
+ * `start` of the block of that antenna. On a refusal `antenna` is 0 and there is no part; `place` is the first byte of the offending
+ * record of the first block, for CJ_RECORD_CUT to CJ_SPARE_BIT_SET of that block, and 0 otherwise.
+ */
+typedef struct cj_record {
+    uint32_t refusal;
+    uint32_t place;
+    uint32_t count;
+    uint32_t antenna;
+    uint32_t start;
+    uint32_t length;
+} cj_record;
 
 /*
  * The smallest pair that fits the first `count` bits of `bytes`: of the fitting pairs inside the limits, the one with the least size
@@ -207,6 +222,16 @@ uint32_t cj_whiten(cj_register *r, uint8_t *bytes, size_t len);
  * passed, CJ_PLACE_FULL at the first record that overfills its place.
  */
 cj_taken cj_take(uint8_t *store, size_t store_len, const uint8_t *block, size_t block_len);
+
+/*
+ * One record out of the blocks of two antennas: of the records that name `meter` (1 to CJ_METERS), the `ordinal`-th in block order,
+ * counted from 1. The first block is used if all of it is well formed, otherwise the second. An empty block is well formed, so a
+ * silent first antenna is used and has no record. No store is involved, and neither block is changed. The part is not copied: its bytes
+ * stay in the caller's block, first + start or second + start as `antenna` says, for as long as the caller keeps that block.
+ * Refuses, in this order: where both blocks are malformed, what the first one breaks, with its place: CJ_BLOCK_TOO_LONG, then
+ * CJ_RECORD_CUT to CJ_SPARE_BIT_SET record by record as in cj_take; CJ_METER_WRONG for the asked meter (place 0); CJ_NO_RECORD.
+ */
+cj_record cj_read(const uint8_t *first, size_t first_len, const uint8_t *second, size_t second_len, uint32_t meter, uint32_t ordinal);
 
 #ifdef __cplusplus
 }

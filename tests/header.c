@@ -51,4 +51,12 @@ HOLDS(taken_size, sizeof(cj_taken) == 8);
 AT(taken_refusal, cj_taken, refusal, 0);
 AT(taken_place, cj_taken, place, 4);
 
+HOLDS(record_size, sizeof(cj_record) == 24);
+AT(record_refusal, cj_record, refusal, 0);
+AT(record_place, cj_record, place, 4);
+AT(record_count, cj_record, count, 8);
+AT(record_antenna, cj_record, antenna, 12);
+AT(record_start, cj_record, start, 16);
+AT(record_length, cj_record, length, 20);
+
 HOLDS(store_bytes, CJ_STORE_BYTES == CJ_METERS * CJ_PLACE_BYTES && CJ_PLACE_BYTES == 2 + CJ_MOST_BITS / 8);
