@@ -1,17 +1,16 @@
 -- Loading a pair inside the limits never gives a memory outside -2^30 to 2^30: y is at most r·2^r, and so m at most |p|/2^r + r.
 -- to move down: registers
-use mathlib.Core.Path.{_≡_, refl, sym, ap, _∙_, subst}
+use mathlib.Core.Path.{_≡_, sym, ap, _∙_}
 use mathlib.Core.Logic.{inl, inr}
 use Prim.Native.Nat.{ℕ, zero, suc, _+_, _-_, _*_, _^_, _≤_, _<_}
 use native.Mathlib.Omega.{arith}
 use native.Mathlib.Nat.{pow-suc, mul-le-mul, mul-le-mul-right}
 use lib.Pow.{pow-mono}
-use lib.IntN.{ℤ, pos, negsuc, negℤ, natAbs, _+ℤ_, _-ℤ_, _*ℤ_}
+use lib.IntN.{ℤ, pos, negℤ, natAbs, _-ℤ_, _*ℤ_}
 use Rattle.integers.proofs.Parts.{natAbs-+, natAbs-*, natAbs-neg}
 use Rattle.integers.proofs.Finite.{le-or-gt}
 use Rattle.integers.proofs.Log2.{log2-step, log2-below}
-use Rattle.bits.specs.Bits.{bitOf}
-use Rattle.fractions.specs.Pairs.{Inside, limit}
+use Rattle.fractions.specs.Pairs.{Inside}
 use Rattle.registers.specs.Registers.{cellCount, tap, cell, sumBelow, yTo, Load}
 use Rattle.registers.specs.declared.Register.{Register}
 

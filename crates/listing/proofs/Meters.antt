@@ -1,24 +1,24 @@
 -- What learning answers for a meter decides which line it has.
-use mathlib.Core.Path.{_≡_, refl, sym, ap, _∙_, subst}
-use mathlib.Core.Bool.{Bool, true, false}
-use mathlib.Core.Logic.{_⊎_, inl, inr}
+use mathlib.Core.Path.{_≡_, refl, sym, _∙_, subst}
+use mathlib.Core.Bool.{true, false}
+use mathlib.Core.Logic.{inl, inr}
 use mathlib.Core.List.{List, [], _∷_, _++_, append-assoc}
-use Prim.Native.Nat.{ℕ, _+_, _≤_, _<_}
+use Prim.Native.Nat.{ℕ, _+_, _≤_}
 use native.Mathlib.Omega.{arith}
 use lib.IntN.{ℤ, pos}
 use lib.ListN.{length}
 use Rattle.fractions.specs.Pairs.{Inside}
 use Rattle.fractions.specs.declared.Fraction.{Fraction}
-use Rattle.store.specs.Places.{isStore, burst}
+use Rattle.store.specs.Places.{burst}
 use Rattle.store.specs.ByMeter.{Asked, LearnsMeter, meterNumber, meterP, meterQ}
 use Rattle.store.specs.ByMeter as M
 use Rattle.store.specs.declared.ByMeter.{ByMeter}
 use Rattle.store.specs.declared.ByMeter.the-variants as Answers
 use Rattle.io.specs.Counts.{Counts}
-use Rattle.text.specs.Text.{Wrote, decimalOf, signedOf}
+use Rattle.text.specs.Text.{Wrote, decimalOf}
 use Rattle.text.proofs.Writing.{wrote-then}
 use Rattle.listing.proofs.Rooms.{counted}
-use Rattle.listing.specs.Lines.{row, space, lineEnd, noneWord, HasBits, Lines, silent, fraction, none, Writes}
+use Rattle.listing.specs.Lines.{lineEnd, noneWord, HasBits, Lines, silent, fraction, none, Writes}
 use Rattle.listing.specs.Pieces.{Piece, spaced, Rest, rest}
 
 abbrev learns : List ℕ → ℕ → ByMeter → Type 0

@@ -1,8 +1,8 @@
 -- What cannot be refused: a valid register by the sheet and the walk, and a pair inside the limits by loading.
-use mathlib.Core.Path.{_≡_, refl, sym, ap, _∙_, subst}
-use Prim.Native.Nat.{ℕ, _^_, _≤_, _<_}
+use mathlib.Core.Path.{_≡_, refl, subst}
+use Prim.Native.Nat.{ℕ}
 use native.Mathlib.Omega.{arith}
-use lib.IntN.{ℤ, pos, natAbs}
+use lib.IntN.{ℤ}
 use Rattle.fractions.specs.Pairs.{Inside}
 use Rattle.registers.specs.Registers.{Valid, cellCount}
 use Rattle.registers.specs.Answers.{Sheets, sheet, sheetNumber, sheetCells, sheetBits, Loads, loaded}

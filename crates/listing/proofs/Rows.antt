@@ -1,17 +1,15 @@
 -- The pieces of a line are its fields, one space between.
-use mathlib.Core.Path.{_≡_, refl, sym, ap, _∙_, subst}
-use mathlib.Core.List.{List, [], _∷_, _++_, append-assoc}
+use mathlib.Core.Path.{_≡_, sym, subst}
+use mathlib.Core.List.{List, _++_, append-assoc}
 use Prim.Native.Nat.{ℕ, _+_, _≤_}
 use lib.IntN.{ℤ}
 use lib.ListN.{length}
 use native.Mathlib.Omega.{arith}
-use Rattle.registers.specs.Registers.{cellCount}
 use Rattle.registers.specs.Answers.{Loads, loaded}
 use Rattle.registers.specs.declared.Register.{Register}
-use Rattle.text.specs.Text.{Wrote, decimalOf, signedOf}
 use Rattle.text.proofs.Writing.{wrote-then}
-use Rattle.listing.specs.Lines.{space, lineEnd, row, Writes}
-use Rattle.listing.specs.Pieces.{Piece, spaced, registered, Way, way, Rest, rest}
+use Rattle.listing.specs.Lines.{Writes}
+use Rattle.listing.specs.Pieces.{Piece, registered, Way, way, Rest, rest}
 
 q-of : {p : ℤ} {q : ℕ} {g : Register} → Loads p q 0 g → g .q ≡ q
 q-of (loaded i l m) = l .q-is

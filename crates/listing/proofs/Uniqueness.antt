@@ -5,12 +5,12 @@
 --   writes-unique  so every byte and the answer are determined
 --   row-unique     two rows that are equal have the same fields, none of which holds a space or a line end
 --   line-says      two lines that are equal say the same meter, count, p, q and memory
-use mathlib.Core.Path.{_≡_, refl, sym, ap, ap₂, _∙_, subst}
-use mathlib.Core.List.{List, [], _∷_, _++_}
-use Prim.Native.Nat.{ℕ, suc, _+_, _≤_, _<_}
+use mathlib.Core.Path.{_≡_, refl, sym, ap, subst}
+use mathlib.Core.List.{List, [], _∷_}
+use Prim.Native.Nat.{ℕ, _≤_, _<_}
 use native.Mathlib.Omega.{arith}
 use lib.Dec.{lit<, lit≤}
-use lib.IntN.{ℤ, pos}
+use lib.IntN.{ℤ}
 use lib.ListN.{length, getD, length-append}
 use Rattle.registers.specs.Registers.{cellCount}
 use Rattle.registers.specs.Answers.{Loads, loaded}
@@ -19,12 +19,11 @@ use Rattle.registers.proofs.Loading.{load-unique}
 use Rattle.walking.specs.Walks as W
 use Rattle.walking.proofs.Walks.{loops-unique}
 use Rattle.store.specs.Places.{burst}
-use Rattle.store.specs.ByMeter.{LearnsMeter}
 use Rattle.store.proofs.Learnt.{meter-unique}
 use Rattle.text.specs.Text.{Wrote, decimalOf, signedOf}
 use Rattle.text.proofs.Digits.{Above, decimal-above, signed-above, decimal-unique, signed-unique, field-unique}
 use Rattle.text.proofs.Writing.{wrote-unique}
-use Rattle.listing.specs.Lines.{row, space, lineEnd, LastTwo, walked, past, Lines, silent, fraction, none, Writes}
+use Rattle.listing.specs.Lines.{row, space, LastTwo, walked, past, Lines, silent, fraction, none, Writes}
 
 pub last-unique : {g : Register} {a b a' b' : List ℕ} → LastTwo g a b → LastTwo g a' b' → (a ≡ a') × (b ≡ b')
 last-unique (walked (W.walked v l e k)) (walked (W.walked v' l' e' k')) = let u = loops-unique l l' in (ap decimalOf (u .0), ap decimalOf (u .1))

@@ -1,5 +1,4 @@
 -- `listing::line` meets its contract: the line that learning's answer asks for.
-use mathlib.Core.Path.{_≡_, ap, subst}
 use native.Mathlib.Omega.{arith}
 use mir.Syntax.{w32}
 use mir.ValLaws.{toZ-ofZ}

@@ -1,14 +1,6 @@
 -- `listing::pieces::registered` meets its contract: four fields, one behind another.
-use mathlib.Core.Path.{_≡_, ap, subst}
-use mathlib.Core.List.{List}
-use Prim.Native.Nat.{ℕ}
-use native.Mathlib.Omega.{arith}
-use lib.IntN.{ℤ}
 use mir.Syntax.{w32}
 use mir.ValLaws.{toZ-ofZ}
-use Rattle.registers.specs.Registers.{cellCount}
-use Rattle.text.specs.Text.{decimalOf, signedOf}
-use Rattle.listing.specs.Pieces.{Piece, spaced}
 use Rattle.listing.proofs.Rooms.{piece-then}
 use borrow.Author.Needs.{needs}
 use Rattle.listing.proofs.pieces.registered.Statement.{statement}

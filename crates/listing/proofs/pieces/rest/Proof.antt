@@ -1,12 +1,9 @@
 -- `listing::pieces::rest` meets its contract: loading a pair inside the limits is not refused, and its register is valid.
-use mathlib.Core.Path.{_≡_, ap, subst}
 use native.Mathlib.Omega.{arith}
-use lib.IntN.{ℤ}
 use mir.Syntax.{w32}
 use mir.ValLaws.{toZ-ofZ}
-use Rattle.registers.specs.Registers.{Valid}
 use Rattle.registers.specs.Answers.{Loads}
-use Rattle.listing.specs.Pieces.{Piece, registered}
+use Rattle.listing.specs.Pieces.{registered}
 use Rattle.listing.proofs.Refusals.{load-into, into-valid, load-not-outside, load-not-wide}
 use Rattle.listing.proofs.Rows.{rest-of}
 use borrow.Author.Needs.{needs}

@@ -1,8 +1,7 @@
 -- `listing::pieces::way` meets its contract: the two fields that the walk's answer asks for.
-use mathlib.Core.Path.{_≡_, ap, subst}
 use native.Mathlib.Omega.{arith}
-use Rattle.listing.specs.Pieces.{Way, way}
-use Rattle.listing.proofs.Rooms.{decimal-short, decimal-piece, one-byte, piece-then, room-after, two-numbers}
+use Rattle.listing.specs.Pieces.{way}
+use Rattle.listing.proofs.Rooms.{decimal-short, decimal-piece, room-after, two-numbers}
 use Rattle.listing.proofs.Refusals.{walk-loop, walk-past, walk-not}
 use borrow.Author.Needs.{needs}
 use Rattle.listing.proofs.pieces.way.Statement.{statement}
