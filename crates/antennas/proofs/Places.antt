@@ -1,5 +1,4 @@
 -- The place of a refused block lies inside the block; it is 0 for one that is too long. So it fits the 32 bits that the C interface has for it.
--- to move down: records
 use Prim.Native.Nat.{ℕ, zero, suc, _+_, _-_, _^_, _≤_, _<_}
 use mathlib.Core.Path.{_≡_, refl, sym, ap, _∙_}
 use mathlib.Core.Bool.{Bool, true, false, cond}

@@ -57,7 +57,6 @@ pub sheet-unique : (g : Register) (r s : Storage) → Sheets g (r .refusal) (r .
 sheet-unique g r s h k = let e = sheets-same h k in λ i. record { refusal = e .0 i; cells = e .1 i; «memory_bits» = e .2 i }
 
 -- ---- walks
--- to move down: walking
 walks-same : {g : Register} {a m n L T S L' T' S' : ℕ} → Walks g a m L T S → Walks g a n L' T' S' → (m ≡ n) × (L ≡ L') × (T ≡ T') × (S ≡ S')
 walks-same (walked v x e h) (walked w y f i) = let z = loops-unique x y in (refl, z .0, z .1, omega (arith, z .0, z .1))
 walks-same (walked v x e h) (invalid b) = absurd (b v)
@@ -73,7 +72,6 @@ pub walk-unique : (g : Register) (allowance : ℕ) (r s : Walked) → Walks g al
 walk-unique g allowance r s h k = let e = walks-same h k in λ i. record { refusal = e .0 i; lead = e .1 i; period = e .2 i; sum = e .3 i }
 
 -- ---- the table, the output word, and taking a block
--- to move down: periods
 periods-same : {q m n t u : ℕ} → Periods q m t → Periods q n u → (m ≡ n) × (t ≡ u)
 periods-same (entry i a) (entry j b) = (refl, least-unique a b)
 periods-same (entry i a) (outside n) = absurd (n i)

@@ -1,5 +1,4 @@
 -- Loading a pair inside the limits never gives a memory outside -2^30 to 2^30: y is at most r·2^r, and so m at most |p|/2^r + r.
--- to move down: registers
 use mathlib.Core.Path.{_≡_, sym, ap, _∙_}
 use mathlib.Core.Logic.{inl, inr}
 use Prim.Native.Nat.{ℕ, zero, suc, _+_, _-_, _*_, _^_, _≤_, _<_}
