@@ -87,6 +87,18 @@ pub struct Taken {
     pub place: u32,
 }
 
+/// A record of two antennas' blocks; its bytes are `length` from `start` in the block of `antenna`.
+#[repr(C)]
+#[derive(Clone, Copy, PartialEq, Eq, Debug, Default)]
+pub struct Read {
+    pub refusal: u32,
+    pub place: u32,
+    pub count: u32,
+    pub antenna: u32,
+    pub start: u32,
+    pub length: u32,
+}
+
 impl Fraction {
     pub fn refused(refusal: u32) -> Fraction {
         Fraction { refusal, p: 0, q: 0 }

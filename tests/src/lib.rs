@@ -10,9 +10,11 @@
 //! - `walking`: lead-in and period, by the states seen, by two walkers, and by the order of two
 //! - `whitening`: bit by bit
 //! - `store`: records, blocks, the store, learning by meter
+//! - `antennas`: one record out of two antennas' blocks
 //! - `listing`: what the listing program prints
 
 pub mod answers;
+pub mod antennas;
 pub mod fractions;
 pub mod integers;
 pub mod learning;

@@ -7,7 +7,7 @@ use crate::library::Library;
 use crate::pick;
 use reference::answers::{BLOCK_BYTES, METERS, MOST_BITS, PLACE_BYTES, WHITEN_BYTES};
 use reference::fractions::packed;
-use reference::{fractions, learning, periods, registers, store, walking, whitening};
+use reference::{antennas, fractions, learning, periods, registers, store, walking, whitening};
 use std::fmt::Debug;
 
 /// The inputs of a case with both answers, for a person to try again.
@@ -29,7 +29,7 @@ pub struct Subject {
     pub run: fn(&dyn Library, u64, &mut Random) -> Outcome,
 }
 
-pub const SUBJECTS: [Subject; 11] = [
+pub const SUBJECTS: [Subject; 12] = [
     Subject { name: "cj_learn", refusals: &[1, 2, 3], cases: 120_000, run: learn },
     Subject { name: "cj_learn_meter", refusals: &[3, 10, 14], cases: 12_000, run: learn_meter },
     Subject { name: "cj_read_back", refusals: &[5, 7], cases: 150_000, run: read_back },
@@ -41,6 +41,7 @@ pub const SUBJECTS: [Subject; 11] = [
     Subject { name: "cj_output_word", refusals: &[4], cases: 150_000, run: output_word },
     Subject { name: "cj_whiten", refusals: &[5, 9], cases: 30_000, run: whiten },
     Subject { name: "cj_take", refusals: &[10, 11, 12, 13, 14, 15, 16, 17], cases: 30_000, run: take },
+    Subject { name: "cj_read", refusals: &[11, 12, 13, 14, 15, 16, 18], cases: 30_000, run: read },
 ];
 
 fn compare<T: PartialEq + Debug>(refusal: u32, expected: T, found: T, inputs: impl FnOnce() -> String) -> Outcome {
@@ -264,4 +265,24 @@ fn take(library: &dyn Library, case: u64, random: &mut Random) -> Outcome {
     let outcome = compare(expected.refusal, expected, found, inputs);
     let outcome = compare_lent(outcome, "store", &taken_into, &lent, inputs);
     compare_lent(outcome, "block", &block_before, &block_lent, inputs)
+}
+
+fn read(library: &dyn Library, case: u64, random: &mut Random) -> Outcome {
+    // both well formed, the first damaged, both damaged
+    let (first_damaged, second_damaged) =
+        pick!(random, (false, false), (false, true), (true, false), (true, false), (true, true), (true, true));
+    let first = antenna_block(random, case % 64 == 0, first_damaged);
+    let second = antenna_block(random, case % 64 == 1, second_damaged);
+    let (meter, ordinal) = question(random, if store::records(&first).is_ok() { &first } else { &second });
+    let before = [Bytes::new(&first, random.below(16)), Bytes::new(&second, random.below(16))];
+    let [mut first_lent, mut second_lent] = before.clone();
+    let expected = antennas::read(&first, &second, meter, ordinal);
+    let found = library.read(&mut first_lent, &mut second_lent, meter, ordinal);
+    let inputs = || {
+        let blocks = [&first, &second].map(|block| format!("block of {} bytes {}", block.len(), hex(block)));
+        format!("meter {meter}, ordinal {ordinal}\n  first {}\n  second {}", blocks[0], blocks[1])
+    };
+    let outcome = compare(expected.refusal, expected, found, inputs);
+    let outcome = compare_lent(outcome, "first block", &before[0], &first_lent, inputs);
+    compare_lent(outcome, "second block", &before[1], &second_lent, inputs)
 }

@@ -3,7 +3,7 @@
 use reference::answers::{Register, BLOCK_BYTES, LIMIT, METERS, MOST_BITS, MOST_MEMORY, PLACE_BYTES, RECORD_BITS, STORE_BYTES};
 use reference::fractions::bits_of;
 use reference::registers::{length, state_of};
-use reference::store::{record_of, store_of};
+use reference::store::{record_of, records, store_of};
 
 /// A generator of random numbers (splitmix64): the same seed, the same inputs.
 pub struct Random(u64);
@@ -428,4 +428,44 @@ pub fn damage_block(random: &mut Random, block: &mut Vec<u8>, starts: &[usize]) 
             block[i] = random.next() as u8;
         }
     }
+}
+
+/// The block of one antenna: empty, short, or as long as a block may be; damaged, it is too long now and then.
+pub fn antenna_block(random: &mut Random, long: bool, damaged: bool) -> Vec<u8> {
+    let (mut block, starts) =
+        if long { (full_block(random), vec![0, 70, 140, 70 * 200]) } else { good_block(random, &[MOST_BITS; METERS]) };
+    if !damaged && random.once_in(12) {
+        block.clear();
+    }
+    if damaged {
+        match random.below(20) {
+            0 => {
+                // well formed but for its length
+                let record = record_of(1, &random.bits(RECORD_BITS));
+                while block.len() <= BLOCK_BYTES {
+                    block.extend(&record);
+                }
+            }
+            1 => block.resize(block.len().max(BLOCK_BYTES + pick!(random, 0, 1, 2, 70)), 0x5A),
+            _ => damage_block(random, &mut block, &starts),
+        }
+    }
+    block
+}
+
+/// A meter and an ordinal to ask a block for: often the first record of a meter in it, the last, or one past.
+pub fn question(random: &mut Random, block: &[u8]) -> (u32, u32) {
+    let named: Vec<usize> = records(block).map_or(vec![], |all| all.iter().map(|record| record.meter).collect());
+    let meter = if named.is_empty() || random.once_in(8) { random_place(random) + 1 } else { random.pick(&named) };
+    let last = named.iter().filter(|&&name| name == meter).count() as u32;
+    let ordinal = match random.below(8) {
+        0 => 0,
+        1 => 1,
+        2 | 3 => last,
+        4 => last + 1,
+        5 => pick!(random, 2, 256, 257, 1 << 16, (1 << 16) + 1, 1 << 31, u32::MAX, u32::MAX - 1),
+        _ => random.below(last as usize + 1) as u32,
+    };
+    let wrong = [0, 33, 34, 255, 256, 257, 1 << 16 | 1, u32::MAX, 1 << 31];
+    (if random.once_in(10) { random.pick(&wrong) } else { meter as u32 }, ordinal)
 }

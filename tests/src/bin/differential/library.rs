@@ -2,7 +2,7 @@
 //! (planted.rs), with a mistake in it.
 
 use crate::lent::{Bytes, Fenced};
-use reference::answers::{Entry, Fraction, Loaded, Register, Stepped, Storage, Taken, Walked, Word};
+use reference::answers::{Entry, Fraction, Loaded, Read, Register, Stepped, Storage, Taken, Walked, Word};
 
 pub trait Library: Sync {
     fn learn(&self, bytes: &mut Bytes, count: u64) -> Fraction;
@@ -16,6 +16,7 @@ pub trait Library: Sync {
     fn output_word(&self, p: i32, q: u32) -> Word;
     fn whiten(&self, register: &mut Fenced, bytes: &mut Bytes) -> u32;
     fn take(&self, store: &mut Bytes, block: &mut Bytes) -> Taken;
+    fn read(&self, first: &mut Bytes, second: &mut Bytes, meter: u32, ordinal: u32) -> Read;
 }
 
 mod c {
@@ -34,6 +35,7 @@ mod c {
         pub fn cj_output_word(p: i32, q: u32) -> Word;
         pub fn cj_whiten(register: *mut Register, bytes: *mut u8, len: usize) -> u32;
         pub fn cj_take(store: *mut u8, store_len: usize, block: *const u8, block_len: usize) -> Taken;
+        pub fn cj_read(first: *const u8, first_len: usize, second: *const u8, second_len: usize, meter: u32, ordinal: u32) -> Read;
     }
 }
 
@@ -84,5 +86,9 @@ impl Library for Linked {
 
     fn take(&self, store: &mut Bytes, block: &mut Bytes) -> Taken {
         unsafe { c::cj_take(store.start(), store.len(), block.start(), block.len()) }
+    }
+
+    fn read(&self, first: &mut Bytes, second: &mut Bytes, meter: u32, ordinal: u32) -> Read {
+        unsafe { c::cj_read(first.start(), first.len(), second.start(), second.len(), meter, ordinal) }
     }
 }

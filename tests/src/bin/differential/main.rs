@@ -46,7 +46,7 @@ fn options() -> Result<Options, String> {
 struct Tally {
     compared: u64,
     /// How often each refusal was met; 0 is the answer.
-    met: [u64; 18],
+    met: [u64; 19],
     first: Option<(u64, Box<Difference>)>,
 }
 
@@ -55,9 +55,9 @@ fn compare_all(library: &dyn Library, stream: usize, cases: u64, seed: u64) -> T
     let subject = &SUBJECTS[stream];
     let next = AtomicU64::new(0);
     let stop = AtomicBool::new(false);
-    let tally = Mutex::new(Tally { compared: 0, met: [0; 18], first: None });
+    let tally = Mutex::new(Tally { compared: 0, met: [0; 19], first: None });
     let work = || {
-        let mut met = [0u64; 18];
+        let mut met = [0u64; 19];
         let mut compared = 0;
         while !stop.load(Ordering::Relaxed) {
             let from = next.fetch_add(CHUNK, Ordering::Relaxed);

@@ -2,8 +2,9 @@
 
 use crate::lent::{Bytes, Fenced};
 use crate::library::Library;
-use reference::answers::{Entry, Fraction, Loaded, Register, Stepped, Storage, Taken, Walked, Word};
+use reference::answers::{Entry, Fraction, Loaded, Read, Register, Stepped, Storage, Taken, Walked, Word};
 use reference::answers::{LIMIT, METERS, MOST_BITS, PLACE_BYTES, STORE_BYTES};
+use reference::antennas::read;
 use reference::fractions::{gcd, output_word, unpacked};
 use reference::learning::{learn, smallest};
 use reference::registers::{self, is_valid, length, numerator, stepped};
@@ -90,6 +91,28 @@ pub const MISTAKES: &[Mistake] = &[
     mistake("cj_take", "a byte behind the store changed"),
     mistake("cj_take", "the block changed"),
     mistake("cj_take", "first bit past the count not judged"),
+    mistake("cj_read", "second block preferred"),
+    mistake("cj_read", "second block's refusal"),
+    mistake("cj_read", "ordinals from 0"),
+    mistake("cj_read", "ordinal 0 as 1"),
+    mistake("cj_read", "ordinal modulo 65,536"),
+    mistake("cj_read", "antenna always 1"),
+    mistake("cj_read", "antenna beside a refusal"),
+    mistake("cj_read", "start of the record"),
+    mistake("cj_read", "part one byte long"),
+    mistake("cj_read", "part without its last bits"),
+    mistake("cj_read", "place lost"),
+    mistake("cj_read", "place of the second block"),
+    mistake("cj_read", "14 before form"),
+    mistake("cj_read", "18 before 14"),
+    mistake("cj_read", "meter modulo 256"),
+    mistake("cj_read", "records before the torn one used"),
+    mistake("cj_read", "an empty first block not used"),
+    mistake("cj_read", "a first block too long used"),
+    mistake("cj_read", "no such record in the first, so the second"),
+    mistake("cj_read", "16,384 bytes refused"),
+    mistake("cj_read", "the first block changed"),
+    mistake("cj_read", "the second block changed"),
 ];
 
 pub struct Planted {
@@ -412,6 +435,52 @@ impl Library for Planted {
                     store.inside_mut().copy_from_slice(&before);
                 }
                 mended
+            }
+            _ => right,
+        }
+    }
+
+    fn read(&self, first: &mut Bytes, second: &mut Bytes, meter: u32, ordinal: u32) -> Read {
+        let (one, two) = (first.inside().to_vec(), second.inside().to_vec());
+        let right = read(&one, &two, meter, ordinal);
+        let both = records(&one).err().zip(records(&two).err());
+        let refused = |refusal: u32| Read { refusal, ..Read::default() };
+        let exchanged = |answer: Read| Read { antenna: if answer.refusal == 0 { 3 - answer.antenna } else { 0 }, ..answer };
+        match self.mistake {
+            "second block preferred" if both.is_none() => exchanged(read(&two, &one, meter, ordinal)),
+            "second block's refusal" if both.is_some() => read(&two, &one, meter, ordinal),
+            "ordinals from 0" => read(&one, &two, meter, ordinal.saturating_add(1)),
+            "ordinal 0 as 1" => read(&one, &two, meter, ordinal.max(1)),
+            "ordinal modulo 65,536" => read(&one, &two, meter, ordinal % 65_536),
+            "antenna always 1" if right.refusal == 0 => Read { antenna: 1, ..right },
+            "antenna beside a refusal" if right.refusal == 18 => Read { antenna: 1, ..right },
+            "start of the record" if right.refusal == 0 => Read { start: right.start - 6, ..right },
+            "part one byte long" if right.refusal == 0 => Read { length: 1, ..right },
+            "part without its last bits" if right.refusal == 0 => Read { length: right.count / 8, ..right },
+            "place lost" => Read { place: 0, ..right },
+            "place of the second block" => both.map_or(right, |(_, other)| Read { place: other.place, ..right }),
+            "14 before form" if !(1..=METERS as u32).contains(&meter) => refused(14),
+            "18 before 14" if both.is_none() && ordinal == 0 => refused(18),
+            "meter modulo 256" => read(&one, &two, meter % 256, ordinal),
+            "records before the torn one used" => match records(&one) {
+                Err(wrong) if wrong.refusal != 11 => read(&one[..wrong.place as usize], &two, meter, ordinal),
+                _ => right,
+            },
+            "an empty first block not used" if one.is_empty() => exchanged(read(&two, &one, meter, ordinal)),
+            "a first block too long used" if one.len() > 16_384 => {
+                let at = records(&one[..16_384]).map_or_else(|wrong| wrong.place as usize, |_| 16_384);
+                read(&one[..at], &two, meter, ordinal)
+            }
+            "no such record in the first, so the second" if right.refusal == 18 && records(&two).is_ok() => {
+                exchanged(read(&two, &one, meter, ordinal))
+            }
+            "16,384 bytes refused" if one.len() == 16_384 => read(&[one, vec![0]].concat(), &two, meter, ordinal),
+            "the first block changed" | "the second block changed" => {
+                let lent = if self.mistake == "the first block changed" { first } else { second };
+                if let Some(last) = lent.inside_mut().last_mut() {
+                    *last ^= 0x80;
+                }
+                right
             }
             _ => right,
         }
