@@ -11,6 +11,7 @@ use mathlib.Core.Logic.{_⊎_, inl, inr}
 use Prim.Native.Nat.{ℕ, zero, suc, _+_, _-_, _*_, _%_, _^_, _≤_, _<_, min}
 use native.Mathlib.Omega.{arith}
 use native.Mathlib.Nat.{add-zero, add-suc, pow-suc, mod-eq-of-lt, mul-le-mul-right, eq-of-mul-eq-mul-right}
+use native.Mathlib.Numerals.{add-one}
 use lib.Pow.{pow-pos, pow-add}
 use lib.IntN.{ℤ, pos, negsuc, _+ℤ_, _-ℤ_, _*ℤ_}
 use Rattle.integers.specs.Numbers.{oddZ, halfZ}
@@ -144,3 +145,12 @@ splits-unique (suc k) q p u₁ u₂ p₁ p₂ o s t =
     let e : u₁ ≡ u₂ = sym a ∙ b in
     let f : u₁ * q ≡ u₂ * q = ap (λ (n : ℕ). n * q) e in
     (e, eq-of p₁ p₂ (eq-of-mul-eq-mul-right W (omega arith) (up p₁ + down p₂) (up p₂ + down p₁) (omega (arith, s .is, t .is))))
+
+-- ---- one digit more, as loops count
+pub digits-more : (q n : ℕ) (p : ℤ) → digitsTo q (n + 1) p ≡ digitsTo q n p + oddZ (iterNum q n p) * 2 ^ n
+unfolding digitsTo
+digits-more q n p = rw (add-one n)
+
+pub numerators-more : (q n : ℕ) (p : ℤ) → iterNum q (n + 1) p ≡ nextNum q (iterNum q n p)
+unfolding iterNum
+numerators-more q n p = rw (add-one n)

@@ -1,6 +1,6 @@
 -- Divisibility as a remainder that is 0, lowest terms, Euclid's lemma (with no Bézout: the least c ≥ 1 with q | c x), and the greatest common divisor.
 use mathlib.Core.Path.{_≡_, refl, sym, ap, _∙_, subst}
-use Prim.Native.Nat.{ℕ, zero, suc, _+_, _-_, _*_, _/_, _%_, _^_, _∣_, _≤_, _<_}
+use Prim.Native.Nat.{ℕ, zero, suc, _+_, _*_, _/_, _%_, _^_, _∣_, _≤_, _<_}
 use native.Mathlib.Omega.{arith}
 use native.Mathlib.Nat.{div-add-mod, mul-add-mod-self-left, mul-assoc, mul-mod-right, mul-comm, mod-lt, one-mul, eq-of-mul-eq-mul-left, dvd-mod-iff, dvd-antisymm, dvd-iff-mod-eq-zero, mod-self, zero-mod, pos-of-dvd-of-pos, eq-one-of-dvd-one, dvd-of-mul-dvd-mul-left, mul-one, mod-zero, mod-eq-of-lt}
 use native.Mathlib.Decide.{ℕ-discrete, map-dec}

@@ -1,6 +1,7 @@
 -- Words on numbers.
 --
 --   Odd z, Even z     |z| leaves 1, 0 on division by 2
+--   Parity z b        b says whether z is odd
 --   oddZ z            z modulo 2, 0 or 1             ("The new cell a_r is 0 or 1 and equals s modulo 2")
 --   halfZ z           z / 2, rounded down            ("the new memory is s/2 rounded toward minus infinity")
 --   log2 n            floor(log2 n), for n at least 1  ("r = floor(log2(q+1))")
@@ -20,6 +21,10 @@ Odd z = natAbs z % 2 ≡ 1
 
 abbrev pub Even : ℤ → Type 0
 Even z = natAbs z % 2 ≡ 0
+
+abbrev pub Parity : ℤ → Bool → Type 0
+Parity z true = Odd z
+Parity z false = Even z
 
 -- negsuc n is -(n + 1)
 abbrev pub oddZ : ℤ → ℕ

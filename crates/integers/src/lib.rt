@@ -5,6 +5,8 @@ ghost use lib.IntN.{natAbs};
 ghost use Rattle.integers.specs.Numbers.{IsGcd};
 ghost use Rattle.integers.specs.Inner.{Newton};
 
+pub mod signed; // signed.rt: the few operations on signed numbers
+
 const HALF: u64 = 4294967296;
 
 // The greatest common divisor of a and b, 0 where both are 0. Each remainder is smaller than the last, so it ends.

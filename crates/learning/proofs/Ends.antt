@@ -9,11 +9,8 @@ use native.Mathlib.Nat.{mul-mod-right}
 use native.Mathlib.Decide.{decLe}
 use lib.Dec.{T, eqb, leb}
 use lib.IntN.{ℤ, pos, negsuc, negℤ, natAbs, _-ℤ_, _*ℤ_}
-use lib.Signed.{mag, ltZ}
-use borrow.Author.Needs.{sfits-of}
+use lib.Signed.{ltZ}
 use borrow.Author.Tests.{ltb-true, eqb-true, eqb-false, leb-true, leb-false}
-use mir.Syntax.{w32}
-use mir.Val.{SFits}
 use Rattle.integers.proofs.Parts.{natAbs-neg, natAbs-*}
 use Rattle.integers.proofs.Order.{eq-by, z-sub, z-*, z-+}
 use Rattle.integers.proofs.Ring.{lit, #, neg, _⊕_, _⊗_, _⊖_, ring1, ring4, ring6, _≔_}
@@ -28,13 +25,6 @@ use Rattle.reduction.proofs.States.{At, least, least-before}
 use Rattle.learning.specs.Steps.{Held, Twofold, flip, Finished}
 
 -- ---- what the functions of the end ask
-mag-le : (z : ℤ) → mag z ≤ natAbs z
-mag-le (pos n) = omega arith
-mag-le (negsuc n) = omega arith
-
-pub fits32 : (z : ℤ) → natAbs z ≤ limit → SFits w32 z
-fits32 z h = sfits-of (omega (arith, mag-le z))
-
 pub held-of : (p q : ℤ) (m : ℕ) → m ≡ max (natAbs p) (natAbs q) → Held p q (leb m limit)
 held-of p q m e = go (leb m limit) refl
   where

@@ -5,6 +5,7 @@ ghost use lib.IntN.{pos, natAbs};
 ghost use Rattle.fractions.specs.Pairs.{limit};
 ghost use Rattle.reduction.specs.Vectors.{vect, Within};
 ghost use Rattle.learning.specs.Steps.{Held, Twofold, flip, Finished};
+use integers::signed::narrow;
 
 const LIMIT: u64 = fractions::LIMIT as u64;
 
@@ -12,7 +13,7 @@ pub fn held(g: reduction::Vector) -> bool
     requires { ⌜ Within (2 ^ 61) (vect g) ⌝ }
     ensures { λ r. ⌜ Held (g .p) (g .q) r ⌝ }
 {
-    reduction::signed::larger(reduction::signed::abs(g.p), reduction::signed::abs(g.q)) <= LIMIT
+    reduction::order::larger(integers::magnitude(g.p), integers::magnitude(g.q)) <= LIMIT
 }
 
 // Does 2^n divide 2 a?
@@ -21,13 +22,6 @@ fn twofold(n: usize, a: u64) -> bool
     ensures { λ r. ⌜ Twofold n a r ⌝ }
 {
     2 * a % (1 << n) == 0
-}
-
-fn narrow(x: i64) -> i32
-    requires { ⌜ natAbs x ≤ limit ⌝ }
-    ensures { λ r. ⌜ r ≡ x ⌝ }
-{
-    x as i32
 }
 
 fn natural(x: u64) -> i32
@@ -50,7 +44,7 @@ fn flipped(p: i64, q: i64) -> i64
     ensures { λ r. ⌜ r ≡ flip p q ⌝ }
 {
     if q < 0 {
-        reduction::signed::sub(0, p)
+        integers::signed::sub(0, p)
     } else {
         p
     }
@@ -71,8 +65,8 @@ pub fn finish(g: reduction::Vector, n: usize) -> fractions::Fraction
     requires { ⌜ (n < 61) × (natAbs (g .p) ≤ limit) × (natAbs (g .q) ≤ limit) ⌝ }
     ensures { λ r. ⌜ Finished n (g .p) (g .q) (r .p) (r .q) ⌝ }
 {
-    let a = reduction::signed::abs(g.p);
-    let q = short(reduction::signed::abs(g.q));
+    let a = integers::magnitude(g.p);
+    let q = short(integers::magnitude(g.q));
     if twofold(n, a) {
         fractions::Fraction {
             p: natural(a),

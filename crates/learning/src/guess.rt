@@ -58,7 +58,7 @@ pub fn side(r: usize, minus: bool) -> i64
     ensures { λ p. ⌜ p ≡ side minus r ⌝ }
 {
     if minus {
-        reduction::signed::sub(0, signed(r))
+        integers::signed::sub(0, signed(r))
     } else {
         signed(r)
     }

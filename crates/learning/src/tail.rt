@@ -31,7 +31,7 @@ fn offset(x: Rest, w: usize, q: usize) -> i64
     requires { ⌜ (natAbs (x .rest) ≤ limit) × (w < 2 ^ 32) × (q ≤ limit) ⌝ }
     ensures { λ r. ⌜ r ≡ x .rest -ℤ pos (w * q) ⌝ }
 {
-    reduction::signed::sub(x.rest, product(w, q))
+    integers::signed::sub(x.rest, product(w, q))
 }
 
 // Does 2^m divide d?
@@ -39,7 +39,7 @@ fn is_whole(d: i64, m: usize) -> bool
     requires { ⌜ (natAbs d < 2 ^ 63) × (m ≤ 32) ⌝ }
     ensures { λ r. ⌜ Whole d m r ⌝ }
 {
-    reduction::signed::abs(d) % (1 << m) == 0
+    integers::magnitude(d) % (1 << m) == 0
 }
 
 fn shifted(d: i64, m: usize) -> Rest

@@ -1,13 +1,16 @@
 -- The key max(|p|, |q|) M² + |p| M + |q|: a norm, and for pairs below M the order of the document up to the sign: size, then |p|, then |q|.
-use mathlib.Core.Path.{_≡_, _∙_, ap, ap₂}
+use mathlib.Core.Path.{_≡_, refl, sym, _∙_, ap, ap₂}
+use mathlib.Core.Bool.{Bool, true, false}
 use mathlib.Core.Logic.{_⊎_, inl, inr, _↔_}
 use Prim.Native.Nat.{ℕ, suc, _+_, _*_, _<_, _≤_, max}
 use native.Mathlib.Omega.{arith}
 use native.Mathlib.Nat.{mul-le-mul-left, mul-le-mul-right, max-eq-left, max-eq-right}
 use native.Mathlib.Decide.{decLe}
+use lib.Dec.{leb}
 use lib.IntN.{ℤ, _+ℤ_, natAbs}
+use borrow.Author.Tests.{leb-true, leb-false}
 use Rattle.integers.proofs.Parts.{natAbs-+, natAbs-*}
-use Rattle.reduction.specs.Vectors.{size, norm, Lex}
+use Rattle.reduction.specs.Vectors.{size, norm, Lex, Ordered}
 use Rattle.reduction.proofs.Norm.{Norm}
 
 max-mul : (c a b : ℕ) → max (c * a) (c * b) ≡ c * max a b
@@ -93,3 +96,11 @@ no-larger M p q p' q' h' k' l = below M (natAbs p) (natAbs q) (natAbs p') (natAb
 -- so only the second pair need be below M
 pub before-of : (M : ℕ) (p q p' q' : ℤ) → natAbs p' < M → natAbs q' < M → norm M p q ≤ norm M p' q' → Before p q p' q'
 before-of M p q p' q' h' k' l = let e = no-larger M p q p' q' h' k' l in before-iff M p q p' q' (omega arith) (omega arith) h' k' .0 l
+
+-- the last test of code on two pairs of sizes
+pub ordered-last : (a b c d : ℕ) → max a b ≡ max c d → a ≡ c → Ordered a b c d (leb b d)
+ordered-last a b c d h k = go (leb b d) refl
+  where
+    go : (t : Bool) → leb b d ≡ t → Ordered a b c d t
+    go true e = inr (h, inr (k, leb-true b d e))
+    go false e = let l = leb-false b d e in inr (sym h, inr (sym k, omega arith))

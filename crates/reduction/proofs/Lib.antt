@@ -5,5 +5,4 @@ pub mod Vectors
 pub mod Basis
 pub mod Turns
 pub mod States
-pub mod Signs
 pub mod Moves

@@ -9,10 +9,10 @@ use mir.Syntax.{w64}
 use mir.Val.{toZ, ofZ}
 use mir.ValLaws.{toZ-ofZ}
 use Rattle.integers.proofs.Parts.{natAbs-+, natAbs-neg}
-use Rattle.integers.specs.Numbers.{Odd, Even}
+use Rattle.integers.specs.Numbers.{Odd, Even, Parity}
 use Rattle.integers.proofs.Sizes.{fits64}
 use Rattle.integers.proofs.Ring.{#, _⊕_, _⊗_, _⊖_, ring1, ring2, _≔_}
-use Rattle.reduction.specs.Vectors.{Vect, plus, minus, off, Within, Lex, Ordered, Parity}
+use Rattle.reduction.specs.Vectors.{Vect, plus, minus, off, Within, Lex, Ordered}
 use Rattle.reduction.specs.Reduced.{big, Pick, fst, snd}
 use Rattle.reduction.proofs.States.{pick-fst, pick-snd}
 
@@ -21,9 +21,6 @@ back z h = toZ-ofZ w64 z (fits64 z (omega arith))
 
 pub room2 : (x y : ℤ) → natAbs x ≤ 2 ^ 61 → natAbs y ≤ 2 ^ 61 → natAbs (toZ w64 (ofZ w64 x)) + natAbs (toZ w64 (ofZ w64 y)) < 2 ^ 63
 room2 x y h k = omega (arith, ap natAbs (back x h), ap natAbs (back y k))
-
-pub room1 : (x : ℤ) → natAbs x ≤ 2 ^ 61 → natAbs (toZ w64 (ofZ w64 x)) < 2 ^ 63
-room1 x h = omega (arith, ap natAbs (back x h))
 
 -- a call's signed result
 pub got : {y : ℤ} (z : ℤ) → mag z < 2 ^ 63 → z ≡ y → toZ w64 (ofZ w64 z) ≡ y

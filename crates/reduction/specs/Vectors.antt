@@ -14,7 +14,6 @@ use mathlib.Core.Bool.{Bool, true, false}
 use mathlib.Core.Logic.{_⊎_}
 use Prim.Native.Nat.{ℕ, _+_, _*_, _<_, _≤_, max}
 use lib.IntN.{ℤ, pos, _+ℤ_, _-ℤ_, _*ℤ_, natAbs}
-use Rattle.integers.specs.Numbers.{Odd, Even}
 use Rattle.reduction.specs.declared.Vector.{Vector}
 
 pub record Vect : Type 0 where
@@ -65,7 +64,3 @@ Lex a b c d = (max a b < max c d) ⊎ ((max a b ≡ max c d) × ((a < c) ⊎ ((a
 abbrev pub Ordered : ℕ → ℕ → ℕ → ℕ → Bool → Type 0
 Ordered a b c d true = Lex a b c d
 Ordered a b c d false = Lex c d a b
-
-abbrev pub Parity : ℤ → Bool → Type 0
-Parity z true = Odd z
-Parity z false = Even z

@@ -7,7 +7,7 @@ ghost use Rattle.integers.specs.Numbers.{halfZ};
 ghost use Rattle.reduction.specs.Vectors.{vect, plus, minus, off, twice, rest, Within};
 ghost use Rattle.reduction.specs.Reduced.{big, Pick, Turned, Started, After};
 
-pub mod signed;
+pub mod order; // order.rt: which of two pairs stands first
 
 // A pair with its rest: p = A q + 2^k rest, A the value of the first k bits.
 pub struct Vector {
@@ -27,9 +27,9 @@ fn sum(g: Vector, f: Vector) -> Vector
     ensures { λ r. ⌜ vect r ≡ plus (vect g) (vect f) ⌝ }
 {
     Vector {
-        p: signed::add(g.p, f.p),
-        q: signed::add(g.q, f.q),
-        rest: signed::add(g.rest, f.rest),
+        p: integers::signed::add(g.p, f.p),
+        q: integers::signed::add(g.q, f.q),
+        rest: integers::signed::add(g.rest, f.rest),
     }
 }
 
@@ -38,9 +38,9 @@ fn difference(g: Vector, f: Vector) -> Vector
     ensures { λ r. ⌜ vect r ≡ minus (vect g) (vect f) ⌝ }
 {
     Vector {
-        p: signed::sub(g.p, f.p),
-        q: signed::sub(g.q, f.q),
-        rest: signed::sub(g.rest, f.rest),
+        p: integers::signed::sub(g.p, f.p),
+        q: integers::signed::sub(g.q, f.q),
+        rest: integers::signed::sub(g.rest, f.rest),
     }
 }
 
@@ -52,7 +52,7 @@ fn offset(v: Vector, bit: usize) -> i64
     if bit == 0 {
         v.rest
     } else {
-        signed::sub(v.rest, v.q)
+        integers::signed::sub(v.rest, v.q)
     }
 }
 
@@ -61,8 +61,8 @@ fn doubled(v: Vector, bit: usize) -> Vector
     ensures { λ r. ⌜ vect r ≡ twice (pos bit) (vect v) ⌝ }
 {
     Vector {
-        p: signed::add(v.p, v.p),
-        q: signed::add(v.q, v.q),
+        p: integers::signed::add(v.p, v.p),
+        q: integers::signed::add(v.q, v.q),
         rest: offset(v, bit),
     }
 }
@@ -74,7 +74,7 @@ fn halved(v: Vector, bit: usize) -> Vector
     Vector {
         p: v.p,
         q: v.q,
-        rest: signed::half(offset(v, bit)),
+        rest: integers::signed::half(offset(v, bit)),
     }
 }
 
@@ -83,11 +83,11 @@ fn smaller(x: Vector, y: Vector) -> Vector
     requires { ⌜ Within (2 ^ 61) (vect x) × Within (2 ^ 61) (vect y) ⌝ }
     ensures { λ r. ⌜ Pick big (vect x) (vect y) (vect r) ⌝ }
 {
-    if signed::ordered(
-        signed::abs(x.p),
-        signed::abs(x.q),
-        signed::abs(y.p),
-        signed::abs(y.q),
+    if order::ordered(
+        integers::magnitude(x.p),
+        integers::magnitude(x.q),
+        integers::magnitude(y.p),
+        integers::magnitude(y.q),
     ) {
         x
     } else {
@@ -121,7 +121,7 @@ pub fn turn(x: State, bit: usize) -> State
     let f = x.f;
     let g = x.g;
     let s = smaller(sum(g, f), difference(g, f));
-    if signed::is_odd(offset(g, bit)) {
+    if integers::signed::is_odd(offset(g, bit)) {
         State {
             f: doubled(smaller(f, g), bit),
             g: halved(s, bit),

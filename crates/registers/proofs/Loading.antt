@@ -6,48 +6,20 @@
 --   load-state      a valid register is the one that its numerator loads
 --   load-valid      a loaded register whose memory fits is valid
 use mathlib.Core.Path.{_≡_, refl, sym, ap, ap₂, _∙_, subst}
-use Prim.Native.Nat.{ℕ, zero, suc, _+_, _-_, _*_, _%_, _^_, _≤_, _<_}
+use Prim.Native.Nat.{ℕ, _+_, _*_, _%_, _^_, _≤_, _<_}
 use native.Mathlib.Omega.{arith}
-use native.Mathlib.Nat.{mul-le-mul-right}
-use native.Mathlib.Numerals.{add-one}
 use lib.Pow.{pow-pos}
 use lib.IntN.{ℤ, pos, natAbs, negℤ, _+ℤ_, _-ℤ_, _*ℤ_}
-use Rattle.integers.specs.Numbers.{oddZ}
-use Rattle.integers.proofs.Sizes.{odd-lt, abs--}
 use Rattle.integers.proofs.Ring.{ring2, ring4, neg, _⊕_, _⊖_, _⊗_, _≔_}
 use Rattle.fractions.specs.Pairs.{Inside}
-use Rattle.fractions.specs.Expansion.{nextNum, iterNum, digitsTo}
+use Rattle.fractions.specs.Expansion.{iterNum, digitsTo}
 use Rattle.fractions.proofs.Numerators.{digits-lt, expansion-splits, split-eq}
-use Rattle.registers.specs.Inner.{overTo, StateOf}
+use Rattle.taps.specs.Sums.{overTo}
+use Rattle.registers.specs.Inner.{StateOf}
 use Rattle.registers.specs.Registers.{cellCount, Valid, Load, yTo, numOf}
 use Rattle.registers.specs.declared.Register.{Register}
-use Rattle.registers.proofs.Validity.{half-size}
 use Rattle.registers.proofs.Numerators.{y-over}
 use Rattle.registers.proofs.States.{cells-digits, memory-unique}
-
--- ---- how large the numerators are on the way
-pub digit-le : (d q : ℕ) → d < 2 → d * q ≤ q
-digit-le d q h = omega (arith, mul-le-mul-right {m = d} {n = 1} q (omega arith))
-
-pub next-size : (q : ℕ) (p : ℤ) → natAbs p ≤ 2 ^ 61 → q < 2 ^ 30 → natAbs (nextNum q p) ≤ 2 ^ 61
-unfolding nextNum
-next-size q p h l =
-    let d = oddZ p * q in
-    let s : natAbs (p -ℤ pos d) ≤ 2 ^ 61 + 2 ^ 30 = abs-- p (pos d) {a = 2 ^ 61} {b = 2 ^ 30} h (omega (arith, digit-le (oddZ p) q (odd-lt p))) in
-    omega (arith, half-size (p -ℤ pos d))
-
-pub iter-size : (q n : ℕ) (p : ℤ) → natAbs p ≤ 2 ^ 61 → q < 2 ^ 30 → natAbs (iterNum q n p) ≤ 2 ^ 61
-unfolding iterNum
-iter-size q zero p h l = h
-iter-size q (suc n) p h l = next-size q (iterNum q n p) (iter-size q n p h l) l
-
-pub digits-more : (q n : ℕ) (p : ℤ) → digitsTo q (n + 1) p ≡ digitsTo q n p + oddZ (iterNum q n p) * 2 ^ n
-unfolding digitsTo
-digits-more q n p = rw (add-one n)
-
-pub numerators-more : (q n : ℕ) (p : ℤ) → iterNum q (n + 1) p ≡ nextNum q (iterNum q n p)
-unfolding iterNum
-numerators-more q n p = rw (add-one n)
 
 -- ---- y - p = -(p_r + overTo) 2^r, since p = a q + 2^r p_r and y = a q - 2^r overTo
 pub load-is : (p : ℤ) (q a : ℕ) (m : ℤ) → q % 2 ≡ 1 → a ≡ digitsTo q (cellCount q) p

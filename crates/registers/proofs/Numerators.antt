@@ -16,7 +16,7 @@ use Rattle.integers.proofs.Parts.{up, down, eq-of, parts-+, parts--, parts-*pos
 use Rattle.integers.proofs.Ring.{ring2, ring4, ring5, lit, #, _⊕_, _⊖_, _⊗_, _≔_}
 use Rattle.integers.proofs.Log2.{log2-upper}
 use Rattle.bits.specs.Bits.{bitOf}
-use Rattle.registers.specs.Inner.{tapsTo, overTo}
+use Rattle.taps.specs.Sums.{tapsTo, overTo}
 use Rattle.registers.specs.Registers.{cellCount, Valid, sumBelow, tap, cell, sumOf, nextOf, yTo, numOf}
 use Rattle.registers.specs.declared.Register.{Register}
 use Rattle.registers.proofs.Validity.{facts, cells-next, sum-is}

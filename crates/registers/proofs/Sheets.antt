@@ -1,5 +1,5 @@
 -- The storage sheet: the length of a number in bits, by the zeros that the machine counts above its highest one.
-use Prim.Native.Nat.{ℕ, suc, _+_, _-_, _/_, _≤_}
+use Prim.Native.Nat.{ℕ, suc, _+_, _/_, _≤_}
 use native.Mathlib.Omega.{arith}
 use native.Mathlib.Nat.{not-suc-le-zero}
 use lib.Arith.{bin-ind}

@@ -7,20 +7,18 @@ use mathlib.Core.Path.{_≡_, refl, ap}
 use mathlib.Core.Bool.{Bool, true, false}
 use Prim.Native.Nat.{ℕ, zero, suc, _+_, _-_, _*_, _/_, _%_, _^_, _≤_, _<_}
 use native.Mathlib.Omega.{arith}
-use native.Mathlib.Nat.{mul-le-mul, mul-le-mul-right, not-suc-le-zero}
+use native.Mathlib.Nat.{mul-le-mul-right, not-suc-le-zero}
 use native.Mathlib.Numerals.{add-one}
-use mir.Syntax.{w32, w64}
-use mir.Val.{Fits, toZ, ofZ}
-use mir.ValLaws.{toZ-ofZ}
-use lib.IntN.{ℤ, pos, negsuc, natAbs, _+ℤ_, _*ℤ_}
+use lib.IntN.{ℤ, pos, natAbs, _+ℤ_, _*ℤ_}
 use Rattle.integers.specs.Numbers.{oddZ, halfZ}
 use Rattle.integers.proofs.Log2.{log2-step, log2-below}
-use Rattle.integers.proofs.Sizes.{odd-lt, fits64, mag-le}
+use Rattle.integers.proofs.Sizes.{odd-lt, half-size}
 use Rattle.integers.proofs.Parts.{natAbs-+}
 use Rattle.bits.specs.Bits.{bitOf}
 use Rattle.fractions.specs.Pairs.{limit}
 use Rattle.fractions.specs.Answers.{Decides}
-use Rattle.registers.specs.Inner.{tapsTo, overTo}
+use Rattle.taps.proofs.Adding.{taps-le}
+use Rattle.taps.specs.Sums.{tapsTo}
 use Rattle.registers.specs.Registers.{cellCount, Valid, sumBelow, tapSum, sumOf, nextOf, iterOf, tap, cell}
 use Rattle.registers.specs.declared.Register.{Register}
 
@@ -44,31 +42,6 @@ facts g v =
     }
 
 -- ---- the sum over the taps, as a natural number
-pub taps-more : (q a r k : ℕ) → tapsTo q a r (k + 1) ≡ tapsTo q a r k + bitOf (q + 1) (k + 1) * bitOf a (r - (k + 1))
-unfolding tapsTo
-taps-more q a r k = rw (add-one k)
-
-bit-mul : (a b : ℕ) → a % 2 * (b % 2) ≤ 1
-bit-mul a b = mul-le-mul {n₂ = 1} {m₂ = 1} (omega arith) (omega arith)
-
-pub bit-fits : (a b : ℕ) → Fits w32 (a % 2 * (b % 2))
-bit-fits a b = record { fits = omega (arith, bit-mul a b) }
-
-pub more-fits : (s a b : ℕ) → s ≤ 30 → Fits w32 (s + a % 2 * (b % 2))
-more-fits s a b h = record { fits = omega (arith, bit-mul a b) }
-
-pub more-le : (s a b k : ℕ) → s ≤ k → s + a % 2 * (b % 2) ≤ k + 1
-more-le s a b k h = omega (arith, bit-mul a b)
-
-pub taps-le : (q a r k : ℕ) → tapsTo q a r k ≤ k
-unfolding tapsTo
-taps-le q a r zero = omega arith
-taps-le q a r (suc k) = omega (arith, taps-le q a r k, bit-mul ((q + 1) / 2 ^ suc k) (a / 2 ^ (r - suc k)))
-
-pub over-more : (q a r k : ℕ) → overTo q a r (k + 1) ≡ overTo q a r k + bitOf (q + 1) (k + 1) * (a / 2 ^ (r - (k + 1)))
-unfolding overTo
-over-more q a r k = rw (add-one k)
-
 pub taps-are : (q a r : ℕ) → tapSum q a r ≡ pos (tapsTo q a r r)
 unfolding sumBelow tapsTo
 taps-are q a r = go r
@@ -87,10 +60,6 @@ cells-next a o (suc r) h l k =
     let e : suc r - 1 ≡ r = omega arith in
     let p : o * 2 ^ r ≤ 1 * 2 ^ r = mul-le-mul-right (2 ^ r) (omega arith) in
     rw e (omega arith)
-
-pub half-size : (z : ℤ) → 2 * natAbs (halfZ z) ≤ natAbs z + 1
-half-size (pos n) = omega arith
-half-size (negsuc n) = omega arith
 
 pub memory-next : (g : Register) → Valid g → natAbs (halfZ (sumOf g)) ≤ 2 ^ 30
 memory-next g v =
@@ -131,10 +100,3 @@ pub valid-tested : (g : Register) (b : Bool) → g .q % 2 ≡ 1 → g .q ≤ lim
     → Decides (natAbs (g .memory) ≤ 2 ^ 30) b → Decides (Valid g) b
 valid-tested g true o m c d = record { odd = o; some = omega arith; q-most = m; cells = c; memory = d }
 valid-tested g false o m c d = λ v. d (v .memory)
-
--- what the machine reads back of a number at most 2^30
-pub back32 : (z : ℤ) → natAbs z ≤ 2 ^ 30 → toZ w32 (ofZ w32 z) ≡ z
-back32 z h = toZ-ofZ w32 z (record { sfits = omega (arith, mag-le z) })
-
-pub back64 : (z : ℤ) → natAbs z < 2 ^ 63 → toZ w64 (ofZ w64 z) ≡ z
-back64 z h = toZ-ofZ w64 z (fits64 z h)

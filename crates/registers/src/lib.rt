@@ -1,4 +1,4 @@
-// The register: taps, step, load, read back, sheet. The contracts cite Registers and Answers of specs/.
+// The register: step, load, read back, sheet. The contracts cite Registers and Answers of specs/.
 ghost use mathlib.Core.Path.{_≡_};
 ghost use Prim.Native.Nat.{ℕ, _+_, _-_, _*_, _/_, _%_, _^_, _≤_, _<_};
 ghost use lib.IntN.{natAbs};
@@ -10,25 +10,12 @@ ghost use Rattle.registers.specs.Answers.{Loads, loadNumber, loadRegiste
 ghost use Rattle.registers.specs.Answers.{ReadsBack, readNumber, readP, readQ};
 ghost use Rattle.registers.specs.Answers.{Sheets, sheetNumber, sheetCells, sheetBits};
 ghost use Rattle.registers.specs.Inner.{LoadsTo, StateOf, HasState};
-use digits::first_digits;
 use fractions::Fraction;
 use fractions::LIMIT;
-use signed::half_down;
-use signed::less;
-use signed::memory_fits;
-use signed::minus_sum;
-use signed::narrow;
-use signed::odd;
-use signed::plus;
-use signed::wide;
-use sums::cell_count;
-use sums::overflow;
-use sums::power;
-use sums::tap_sum;
-
-mod digits; // digits.rt: the digits of an expansion, one by one
-mod signed; // signed.rt: the few operations on signed numbers
-mod sums; // sums.rt: the sums over the taps
+use integers::signed;
+use taps::digits;
+use taps::memory;
+use taps::sums;
 
 // q, the cells a_0 to a_(r-1) as a number with a_0 lowest, and the memory. C's callers have the same struct.
 #[repr(C)]
@@ -82,11 +69,11 @@ pub fn is_valid(g: Register) -> bool
     if LIMIT < q {
         return false;
     }
-    let room = power(cell_count(q));
+    let room = sums::power(sums::cell_count(q));
     if room <= cells {
         return false;
     }
-    memory_fits(wide(g.memory))
+    memory::in_range(signed::wide(g.memory))
 }
 
 // A valid register after one step.
@@ -96,14 +83,14 @@ fn advance(g: Register) -> Register
 {
     let q = g.q;
     let cells = g.cells;
-    let r = cell_count(q);
-    let m = wide(g.memory);
-    let s = plus(m, tap_sum(q, cells, r));
-    let top = odd(s) * power(r - 1);
+    let r = sums::cell_count(q);
+    let m = signed::wide(g.memory);
+    let s = memory::plus(m, sums::tap_sum(q, cells, r));
+    let top = signed::odd(s) * sums::power(r - 1);
     Register {
         q: q,
         cells: cells / 2 + top,
-        memory: narrow(half_down(s)),
+        memory: signed::narrow(signed::half(s)),
     }
 }
 
@@ -126,9 +113,14 @@ pub fn numerator(g: Register) -> i64
 {
     let q = g.q;
     let cells = g.cells;
-    let r = cell_count(q);
+    let r = sums::cell_count(q);
     let product = (cells as u64) * (q as u64);
-    less(product, overflow(q, cells, r), wide(g.memory), power(r))
+    memory::less(
+        product,
+        sums::overflow(q, cells, r),
+        signed::wide(g.memory),
+        sums::power(r),
+    )
 }
 
 // What the rule for loading gives for p/q. With p = cells q + rest 2^r and y = cells q - overflow 2^r, (y - p)/2^r is -(rest + overflow).
@@ -136,12 +128,12 @@ fn state_of(p: i64, q: u32) -> State
     requires { ⌜ (natAbs p ≤ 2 ^ 61) × (q % 2 ≡ 1) × (q < 2 ^ 30) ⌝ }
     ensures { λ s. ⌜ LoadsTo p q (s .cells) (s .memory) ⌝ }
 {
-    let r = cell_count(q);
-    let d = first_digits(p, q, r);
+    let r = sums::cell_count(q);
+    let d = digits::first_digits(p, q, r);
     let cells = d.bits;
     State {
         cells: cells,
-        memory: minus_sum(d.rest, overflow(q, cells, r)),
+        memory: memory::minus_sum(d.rest, sums::overflow(q, cells, r)),
     }
 }
 
@@ -154,7 +146,7 @@ pub fn register_of(p: i64, q: u32) -> Register
     Register {
         q: q,
         cells: s.cells,
-        memory: narrow(s.memory),
+        memory: signed::narrow(s.memory),
     }
 }
 
@@ -163,12 +155,12 @@ pub fn load(p: i32, q: u32) -> Loaded
     ensures { λ r. ⌜ Loads p q (loadNumber r) (loadRegister r) ⌝ }
 {
     if fractions::is_inside(p, q) {
-        let s = state_of(wide(p), q);
-        if memory_fits(s.memory) {
+        let s = state_of(signed::wide(p), q);
+        if memory::in_range(s.memory) {
             Loaded::Into(Register {
                 q: q,
                 cells: s.cells,
-                memory: narrow(s.memory),
+                memory: signed::narrow(s.memory),
             })
         } else {
             Loaded::Wide
@@ -188,7 +180,7 @@ pub fn read_back(g: Register) -> ReadBack
         let lowest = t.q;
         if integers::magnitude(t.p) <= LIMIT as u64 {
             ReadBack::Pair(Fraction {
-                p: narrow(t.p),
+                p: signed::narrow(t.p),
                 q: lowest as u32,
             })
         } else {
@@ -212,7 +204,7 @@ pub fn sheet(g: Register) -> StorageSheet
 {
     if is_valid(g) {
         let q = g.q;
-        StorageSheet::Needs(cell_count(q), bit_length(u32::count_ones(q + 1) - 1))
+        StorageSheet::Needs(sums::cell_count(q), bit_length(u32::count_ones(q + 1) - 1))
     } else {
         StorageSheet::Invalid
     }

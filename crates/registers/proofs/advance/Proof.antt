@@ -11,9 +11,10 @@ use mir.Val.{toZ, ofZ}
 use mir.ValLaws.{toZ-ofZ}
 use Rattle.integers.specs.Numbers.{oddZ, halfZ}
 use Rattle.integers.proofs.Sizes.{odd-lt}
-use Rattle.registers.specs.Inner.{tapsTo}
+use Rattle.taps.specs.Sums.{tapsTo}
 use Rattle.registers.specs.Registers.{cellCount, sumOf}
-use Rattle.registers.proofs.Validity.{Facts, facts, sum-is, memory-next, back32}
+use Rattle.integers.proofs.Sizes.{back32}
+use Rattle.registers.proofs.Validity.{Facts, facts, sum-is, memory-next}
 use Rattle.registers.proofs.advance.Statement.{statement}
 use Rattle.registers.proofs.advance.Tie as tie
 
@@ -67,8 +68,8 @@ add-t10 c =
     let p : 2 ^ cellCount (s .args .g .q) ≤ 2 ^ 30 = pow-mono {j = 30} (f .few) in
     omega (arith, top-small c)
 
-half-down-requires : tie.Need-half-down-requires
-half-down-requires c κs = search needs
+half-requires : tie.Need-half-requires
+half-requires c κs = search needs
 
 -- the sum is the specification's
 the-sum : (c : tie.After-plus) → toZ w64 (ofZ w64 (c .plus .result)) ≡ sumOf (c .before .before .before .before .before .args .g)
@@ -81,8 +82,8 @@ the-sum c =
     (t .tap-sum .ensures .0 ∙ ap (λ (r : ℕ). tapsTo (g .q) (g .cells) r r) (n .cell-count .ensures))
     ∙ sym (sum-is g)
 
-the-half : (c : tie.After-half-down) → toZ w64 (ofZ w64 (c .half-down .result)) ≡ halfZ (sumOf (c .before .before .before .before .before .before .before .before .args .g))
-the-half c = toZ-ofZ w64 _ (record { sfits = c .half-down .ok }) ∙ c .half-down .ensures ∙ ap halfZ (the-sum (c .before .before .before))
+the-half : (c : tie.After-half) → toZ w64 (ofZ w64 (c .half .result)) ≡ halfZ (sumOf (c .before .before .before .before .before .before .before .before .args .g))
+the-half c = toZ-ofZ w64 _ (record { sfits = c .half .ok }) ∙ c .half .ensures ∙ ap halfZ (the-sum (c .before .before .before))
 
 narrow-requires : tie.Need-narrow-requires
 narrow-requires c κs =
@@ -113,6 +114,6 @@ advance-spec =
     power-requires
     mul-top
     add-t10
-    half-down-requires
+    half-requires
     narrow-requires
     returns)

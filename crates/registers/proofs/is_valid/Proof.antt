@@ -35,8 +35,8 @@ returns-3 c = λ v. omega (arith, bound (c .before), v .cells)
 wide-requires : tie.Need-wide-requires
 wide-requires c κs = search needs
 
-memory-fits-requires : tie.Need-memory-fits-requires
-memory-fits-requires c κs = search needs
+in-range-requires : tie.Need-in-range-requires
+in-range-requires c κs = search needs
 
 returns-4 : tie.Need-returns-4
 returns-4 c =
@@ -44,8 +44,8 @@ returns-4 c =
     let g = h .before .before .before .before .args .g in
     let back = toZ-ofZ w32 (g .memory) (record { sfits = c .before .before .struct-told .given .1 .1 .0 .1 }) in
     let m : toZ w64 (ofZ w64 (c .before .wide .result)) ≡ g .memory = toZ-ofZ w64 _ (record { sfits = c .before .wide .ok }) ∙ c .before .wide .ensures ∙ back in
-    valid-tested g (c .memory-fits .result) (omega arith) (omega arith) (omega (arith, bound h))
-    (subst (λ (z : ℤ). Decides (natAbs z ≤ 2 ^ 30) (c .memory-fits .result)) m (c .memory-fits .ensures))
+    valid-tested g (c .in-range .result) (omega arith) (omega arith) (omega (arith, bound h))
+    (subst (λ (z : ℤ). Decides (natAbs z ≤ 2 ^ 30) (c .in-range .result)) m (c .in-range .ensures))
 
 pub is-valid-spec : {M : Type 1} → statement M
 is-valid-spec =
@@ -57,5 +57,5 @@ is-valid-spec =
     power-requires
     returns-3
     wide-requires
-    memory-fits-requires
+    in-range-requires
     returns-4)

@@ -34,8 +34,8 @@ p-is c = toZ-ofZ w64 _ (record { sfits = c .wide .ok }) ∙ c .wide .ensures ∙
 state-of-requires : tie.Need-state-of-requires
 state-of-requires c κs = let i = is-inside (c .before) in rw (p-is c) (omega (arith, i .p-most), i .odd, omega (arith, i .q-most))
 
-memory-fits-requires : tie.Need-memory-fits-requires
-memory-fits-requires c κs = search needs
+in-range-requires : tie.Need-in-range-requires
+in-range-requires c κs = search needs
 
 -- the state that the rule gives, and its memory as the machine reads it back
 loads : (c : tie.After-state-of) → LoadsTo (c .before .before .before .before .args .p) (c .before .before .before .before .args .q) (c .state-of .result .cells) (c .state-of .result .memory)
@@ -50,7 +50,7 @@ memory-small : (c : tie.Then2) → natAbs (c .before .before .before .state-of .
 memory-small c =
     let t = c .before .before in
     subst (λ (z : ℤ). natAbs z ≤ 2 ^ 30) (memory-back t)
-    (subst (Decides (natAbs (toZ w64 (ofZ w64 (t .before .state-of .result .memory))) ≤ 2 ^ 30)) (c .if2 .taken) (c .before .memory-fits .ensures))
+    (subst (Decides (natAbs (toZ w64 (ofZ w64 (t .before .state-of .result .memory))) ≤ 2 ^ 30)) (c .if2 .taken) (c .before .in-range .ensures))
 
 narrow-requires : tie.Need-narrow-requires
 narrow-requires c κs = let d = c .before in rw (memory-back (d .before .before)) (memory-small d)
@@ -73,7 +73,7 @@ returns-2 c =
     let a = s .before .before .before .before .args in
     let big : natAbs (s .state-of .result .memory) ≤ 2 ^ 30 → ⊥ =
     subst (λ (z : ℤ). natAbs z ≤ 2 ^ 30 → ⊥) (memory-back t)
-    (subst (Decides (natAbs (toZ w64 (ofZ w64 (s .state-of .result .memory))) ≤ 2 ^ 30)) (c .if2 .left) (c .before .memory-fits .ensures)) in
+    (subst (Decides (natAbs (toZ w64 (ofZ w64 (s .state-of .result .memory))) ≤ 2 ^ 30)) (c .if2 .left) (c .before .in-range .ensures)) in
     wide (record { q = a .q; cells = s .state-of .result .cells; memory = s .state-of .result .memory }) (is-inside (s .before .before)) (loads s) (omega arith)
 
 returns-3 : tie.Need-returns-3
@@ -88,7 +88,7 @@ load-spec =
     is-inside-requires
     wide-requires
     state-of-requires
-    memory-fits-requires
+    in-range-requires
     narrow-requires
     returns
     returns-2

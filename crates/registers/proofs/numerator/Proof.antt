@@ -9,9 +9,10 @@ use lib.IntN.{ℤ, pos, _+ℤ_, _-ℤ_, _*ℤ_}
 use mir.Syntax.{w64}
 use mir.Val.{toZ, ofZ}
 use mir.ValLaws.{toZ-ofZ}
-use Rattle.registers.specs.Inner.{overTo}
+use Rattle.taps.specs.Sums.{overTo}
 use Rattle.registers.specs.Registers.{cellCount}
-use Rattle.registers.proofs.Validity.{Facts, facts, back32}
+use Rattle.integers.proofs.Sizes.{back32}
+use Rattle.registers.proofs.Validity.{Facts, facts}
 use Rattle.registers.proofs.Numerators.{numerator-over, over-le}
 use Rattle.registers.proofs.numerator.Statement.{statement}
 use Rattle.registers.proofs.numerator.Tie as tie

@@ -10,7 +10,7 @@ use Rattle.fractions.specs.Answers.{Decides}
 use Rattle.fractions.specs.Inner.{Reduced}
 use Rattle.registers.specs.Registers.{Valid, numOf}
 use Rattle.registers.specs.Answers.{ReadsBack, pair, invalid, outside}
-use Rattle.registers.proofs.Validity.{back64}
+use Rattle.integers.proofs.Sizes.{back64}
 use Rattle.registers.proofs.States.{numerator-small}
 use Rattle.registers.proofs.read_back.Statement.{statement}
 use Rattle.registers.proofs.read_back.Tie as tie

@@ -8,7 +8,7 @@ use mir.Val.{toZ, ofZ}
 use mir.ValLaws.{toZ-ofZ}
 use Rattle.registers.specs.Inner.{StateOf, LoadsTo}
 use Rattle.registers.specs.declared.Register.{Register}
-use Rattle.registers.proofs.Validity.{back64}
+use Rattle.integers.proofs.Sizes.{back64}
 use Rattle.registers.proofs.States.{numerator-small}
 use Rattle.registers.proofs.Loading.{load-unique, state-load}
 use Rattle.registers.proofs.register_of.Statement.{statement}

@@ -1,7 +1,7 @@
 -- `registers::sheet` meets its contract: both figures are those of q alone.
 use borrow.Author.Needs.{needs}
 use mathlib.Core.Path.{sym, subst}
-use Prim.Native.Nat.{ℕ, _-_}
+use Prim.Native.Nat.{ℕ}
 use native.Mathlib.Omega.{arith}
 use Rattle.fractions.specs.Answers.{Decides}
 use Rattle.registers.specs.Registers.{Valid}

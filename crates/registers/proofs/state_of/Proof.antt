@@ -9,10 +9,11 @@ use mir.Val.{toZ, ofZ}
 use mir.ValLaws.{toZ-ofZ}
 use Rattle.integers.proofs.Log2.{log2-below}
 use Rattle.fractions.specs.Expansion.{iterNum, digitsTo}
-use Rattle.registers.specs.Inner.{overTo}
+use Rattle.taps.specs.Sums.{overTo}
 use Rattle.registers.specs.Registers.{cellCount}
-use Rattle.registers.proofs.Validity.{back64}
-use Rattle.registers.proofs.Loading.{iter-size, load-is}
+use Rattle.integers.proofs.Sizes.{back64}
+use Rattle.taps.proofs.Expanding.{iter-size}
+use Rattle.registers.proofs.Loading.{load-is}
 use Rattle.registers.proofs.state_of.Statement.{statement}
 use Rattle.registers.proofs.state_of.Tie as tie
 

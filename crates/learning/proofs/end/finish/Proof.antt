@@ -6,7 +6,7 @@ use mir.Syntax.{w32, w64}
 use mir.Val.{toZ, ofZ}
 use mir.ValLaws.{toZ-ofZ}
 use Rattle.learning.specs.Steps.{flip}
-use Rattle.reduction.proofs.Moves.{back, room1, got}
+use Rattle.reduction.proofs.Moves.{back, got}
 use Rattle.learning.proofs.Ends.{abs-flip, finished-whole, finished-flip}
 use borrow.Author.Needs.{needs}
 use Rattle.learning.proofs.end.finish.Statement.{statement}
@@ -18,20 +18,20 @@ p-back c = back (c .args .g .p) (omega (arith, c .pre .1))
 q-back : (c : tie.Start) → toZ w64 (ofZ w64 (c .args .g .q)) ≡ c .args .g .q
 q-back c = back (c .args .g .q) (omega (arith, c .pre .2))
 
-p-abs : (c : tie.After-abs) → c .abs .result ≡ natAbs (c .before .before .args .g .p)
-p-abs c = c .abs .ensures ∙ ap natAbs (p-back (c .before .before))
+p-abs : (c : tie.After-magnitude) → c .magnitude .result ≡ natAbs (c .before .before .args .g .p)
+p-abs c = c .magnitude .ensures ∙ ap natAbs (p-back (c .before .before))
 
-q-abs : (c : tie.After-abs2) → c .abs2 .result ≡ natAbs (c .before .before .before .before .args .g .q)
-q-abs c = c .abs2 .ensures ∙ ap natAbs (q-back (c .before .before .before .before))
+q-abs : (c : tie.After-magnitude2) → c .magnitude2 .result ≡ natAbs (c .before .before .before .before .args .g .q)
+q-abs c = c .magnitude2 .ensures ∙ ap natAbs (q-back (c .before .before .before .before))
 
 flip-is : (c : tie.After-flipped) → let g = c .before .before .before .before .before .before .before .before .before .before .args .g in toZ w64 (ofZ w64 (c .flipped .result)) ≡ flip (g .p) (g .q)
 flip-is c = got (c .flipped .result) (c .flipped .ok) (c .flipped .ensures) ∙ ap₂ flip (p-back (c .before .before .before .before .before .before .before .before .before .before)) (q-back (c .before .before .before .before .before .before .before .before .before .before))
 
-abs-requires : tie.Need-abs-requires
-abs-requires c κs = let s = c .before in room1 (s .args .g .p) (omega (arith, s .pre .1))
+magnitude-requires : tie.Need-magnitude-requires
+magnitude-requires c κs = search needs
 
-abs-requires-2 : tie.Need-abs-requires-2
-abs-requires-2 c κs = let s = c .before .before .before in room1 (s .args .g .q) (omega (arith, s .pre .2))
+magnitude-requires-2 : tie.Need-magnitude-requires-2
+magnitude-requires-2 c κs = search needs
 
 short-requires : tie.Need-short-requires
 short-requires c κs = omega (arith, q-abs c, c .before .before .before .before .pre .2)
@@ -60,8 +60,8 @@ pub finish-spec : {M : Type 1} → statement M
 finish-spec =
     tie.close
     (tie.spec
-    abs-requires
-    abs-requires-2
+    magnitude-requires
+    magnitude-requires-2
     short-requires
     twofold-requires
     natural-requires

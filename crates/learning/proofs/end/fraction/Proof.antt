@@ -1,5 +1,7 @@
 -- `learning::end::fraction` meets its contract: both parts fit 32 bits.
-use mathlib.Core.Path.{_∙_}
+use mathlib.Core.Path.{ap, _∙_}
+use native.Mathlib.Omega.{arith}
+use lib.IntN.{natAbs}
 use mir.Syntax.{w32, w64}
 use mir.ValLaws.{toZ-ofZ}
 use borrow.Author.Needs.{needs}
@@ -7,7 +9,7 @@ use Rattle.learning.proofs.end.fraction.Statement.{statement}
 use Rattle.learning.proofs.end.fraction.Tie as tie
 
 narrow-requires : tie.Need-narrow-requires
-narrow-requires c κs = search needs
+narrow-requires c κs = omega (arith, ap natAbs (toZ-ofZ w64 (c .args .p) (c .fits .p)), c .pre .0)
 
 short-requires : tie.Need-short-requires
 short-requires c κs = search needs

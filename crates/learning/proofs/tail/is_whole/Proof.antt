@@ -11,8 +11,8 @@ use borrow.Author.Needs.{needs}
 use Rattle.learning.proofs.tail.is_whole.Statement.{statement}
 use Rattle.learning.proofs.tail.is_whole.Tie as tie
 
-abs-requires : tie.Need-abs-requires
-abs-requires c κs = search needs
+magnitude-requires : tie.Need-magnitude-requires
+magnitude-requires c κs = search needs
 
 shl-result : tie.Need-shl-result
 shl-result c = search needs
@@ -21,7 +21,7 @@ rem-result : tie.Need-rem-result
 rem-result c = rw (one-shifted (c .before .args .m) (omega arith)) (pow-pos (c .before .args .m))
 
 returns : tie.Need-returns
-returns c = whole-of (c .before .args .d) (c .before .args .m) _ _ (c .abs .ensures ∙ ap natAbs (toZ-ofZ w64 (c .before .args .d) (c .before .fits .d))) (one-shifted (c .before .args .m) (omega arith))
+returns c = whole-of (c .before .args .d) (c .before .args .m) _ _ (c .magnitude .ensures ∙ ap natAbs (toZ-ofZ w64 (c .before .args .d) (c .before .fits .d))) (one-shifted (c .before .args .m) (omega arith))
 
 pub is-whole-spec : {M : Type 1} → statement M
-is-whole-spec = tie.close (tie.spec abs-requires shl-result rem-result returns)
+is-whole-spec = tie.close (tie.spec magnitude-requires shl-result rem-result returns)

@@ -1,0 +1,2 @@
+-- The root of the specs: Sums has the words of the contracts.
+pub mod Sums
