@@ -5,7 +5,7 @@ ghost use Rattle.fractions.specs.Answers.{Outputs};
 ghost use Rattle.learning.specs.Learning.{Learns};
 ghost use Rattle.periods.specs.Answers.{Periods};
 ghost use Rattle.registers.specs.Answers.{Steps, Loads, ReadsBack, Sheets};
-ghost use Rattle.store.specs.ByMeter.{LearnsMeter};
+ghost use Rattle.by_meter.specs.ByMeter.{LearnsMeter};
 ghost use Rattle.walking.specs.Walks.{Walks};
 ghost use Rattle.whitening.specs.Whitening.{Whitens};
 ghost use Rattle.capi.specs.Flat.{registerOf, noFraction, noRegister, noWalk, noRecord, Takes, Reading};
@@ -158,15 +158,15 @@ pub extern "C" fn cj_learn(bytes: &[u8], count: u64) -> Fraction
 pub extern "C" fn cj_learn_meter(store: &[u8], meter: u32) -> Fraction
     ensures { λ r. ⌜ LearnsMeter (now (store .entry)) meter (r .refusal) (r .p) (r .q) ⌝ }
 {
-    match store::learn_meter(store, meter) {
-        store::ByMeter::Answer(x) => Fraction {
+    match by_meter::learn_meter(store, meter) {
+        by_meter::ByMeter::Answer(x) => Fraction {
             refusal: 0,
             p: x.p,
             q: x.q,
         },
-        store::ByMeter::DamagedStore => no_fraction(10),
-        store::ByMeter::UnknownMeter => no_fraction(14),
-        store::ByMeter::NoneInside => no_fraction(3),
+        by_meter::ByMeter::NotAStore => no_fraction(10),
+        by_meter::ByMeter::BadMeter => no_fraction(14),
+        by_meter::ByMeter::NoneInside => no_fraction(3),
     }
 }
 

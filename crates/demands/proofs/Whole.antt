@@ -32,10 +32,10 @@ use Rattle.registers.specs.Registers.{Valid, iterOf, outTo, numOf}
 use Rattle.registers.specs.Answers.{Loads, ReadsBack, pair}
 use Rattle.registers.proofs.States.{emits, iter-add, out-add}
 use Rattle.registers.proofs.Answers.{read-back-emits}
-use Rattle.store.specs.Places.{isStore, fresh, burst}
-use Rattle.store.specs.ByMeter.{LearnsMeter, answer, damaged, unknown, none}
+use Rattle.places.specs.Places.{isStore, fresh, burst}
+use Rattle.by_meter.specs.ByMeter.{LearnsMeter, answer, damaged, unknown, none}
 use Rattle.store.specs.Runs.{Runs, broughtBy}
-use Rattle.store.proofs.Kept.{fresh-store}
+use Rattle.places.proofs.Decode.{fresh-store}
 use Rattle.store.proofs.Meters.{runs-kept, runs-fresh}
 use Rattle.whitening.specs.Whitening.{whiteOf, Whitens, whitened}
 use Rattle.whitening.proofs.Laws.{white-twice}

@@ -34,7 +34,7 @@ fn print_refusal(answer: store::Answer) {
 fn main() {
     let mut block = [0u8; MOST];
     let n = io::read_full(0, &mut block);
-    let mut store = [0u8; store::STORE_SIZE];
+    let mut store = [0u8; places::STORE_SIZE];
     let answer = store::take(&mut store, &block[..n]);
     match answer {
         store::Answer::Taken => print_meters(&store),

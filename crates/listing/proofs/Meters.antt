@@ -9,11 +9,11 @@ use lib.IntN.{ℤ, pos}
 use lib.ListN.{length}
 use Rattle.fractions.specs.Pairs.{Inside}
 use Rattle.fractions.specs.declared.Fraction.{Fraction}
-use Rattle.store.specs.Places.{burst}
-use Rattle.store.specs.ByMeter.{Asked, LearnsMeter, meterNumber, meterP, meterQ}
-use Rattle.store.specs.ByMeter as M
-use Rattle.store.specs.declared.ByMeter.{ByMeter}
-use Rattle.store.specs.declared.ByMeter.the-variants as Answers
+use Rattle.places.specs.Places.{burst, HasPlace}
+use Rattle.by_meter.specs.ByMeter.{LearnsMeter, meterNumber, meterP, meterQ}
+use Rattle.by_meter.specs.ByMeter as M
+use Rattle.by_meter.specs.declared.ByMeter.{ByMeter}
+use Rattle.by_meter.specs.declared.ByMeter.the-variants as Answers
 use Rattle.io.specs.Counts.{Counts}
 use Rattle.text.specs.Text.{Wrote, decimalOf}
 use Rattle.text.proofs.Writing.{wrote-then}
@@ -33,13 +33,13 @@ module _ {s : List ℕ} {m : ℕ} {a : ByMeter} (h : learns s m a) where
 
 -- ---- a meter with bits, or not
 
-pub answer-asked : {s : List ℕ} {m : ℕ} {p : ℤ} {q : ℕ} → LearnsMeter s m 0 p q → Asked s m
+pub answer-asked : {s : List ℕ} {m : ℕ} {p : ℤ} {q : ℕ} → LearnsMeter s m 0 p q → HasPlace s m
 answer-asked (M.answer a f) = a
 
 pub answer-inside : {s : List ℕ} {m : ℕ} {p : ℤ} {q : ℕ} → LearnsMeter s m 0 p q → Inside p q
 answer-inside (M.answer a f) = f .inside
 
-pub none-asked : {s : List ℕ} {m : ℕ} → LearnsMeter s m 3 (pos 0) 0 → Asked s m
+pub none-asked : {s : List ℕ} {m : ℕ} → LearnsMeter s m 3 (pos 0) 0 → HasPlace s m
 none-asked (M.none a f) = a
 
 damaged-not : {s : List ℕ} {m : ℕ} → LearnsMeter s m 10 (pos 0) 0 → HasBits s m → ⊥
@@ -60,13 +60,13 @@ silence old n = record { text = []; is = silent n; wrote = record { new-is = ref
 pub line-empty : (s : List ℕ) (m : ℕ) {n : ℕ} (old : List ℕ) → n ≡ length (burst s m) → n ≡ 0 → Writes (Lines s m) old 0 old 0
 line-empty s m old e z = silence {s = s} {m = m} old (λ b. omega (arith, b .some))
 
-pub line-damaged : {s : List ℕ} {m : ℕ} {a : ByMeter} (old : List ℕ) → learns s m a → a ≡ Answers.DamagedStore → Writes (Lines s m) old 0 old 0
+pub line-damaged : {s : List ℕ} {m : ℕ} {a : ByMeter} (old : List ℕ) → learns s m a → a ≡ Answers.NotAStore → Writes (Lines s m) old 0 old 0
 line-damaged {s} {m} old h e = silence old (damaged-not (subst (learns s m) e h))
 
-pub line-unknown : {s : List ℕ} {m : ℕ} {a : ByMeter} (old : List ℕ) → learns s m a → a ≡ Answers.UnknownMeter → Writes (Lines s m) old 0 old 0
+pub line-unknown : {s : List ℕ} {m : ℕ} {a : ByMeter} (old : List ℕ) → learns s m a → a ≡ Answers.BadMeter → Writes (Lines s m) old 0 old 0
 line-unknown {s} {m} old h e = silence old (unknown-not (subst (learns s m) e h))
 
-bits-of : {s : List ℕ} {m n : ℕ} → Asked s m → n ≡ length (burst s m) → (n ≡ 0 → ⊥) → HasBits s m
+bits-of : {s : List ℕ} {m n : ℕ} → HasPlace s m → n ≡ length (burst s m) → (n ≡ 0 → ⊥) → HasBits s m
 bits-of a e z = record { asked = a; some = omega arith }
 
 fraction-text : {s : List ℕ} {m n : ℕ} {p : ℤ} {q : ℕ} {t : List ℕ} → HasBits s m → n ≡ length (burst s m) → LearnsMeter s m 0 p q → Rest p q t

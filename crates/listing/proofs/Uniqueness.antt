@@ -18,8 +18,8 @@ use Rattle.registers.specs.declared.Register.{Register}
 use Rattle.registers.proofs.Loading.{load-unique}
 use Rattle.walking.specs.Walks as W
 use Rattle.walking.proofs.Walks.{loops-unique}
-use Rattle.store.specs.Places.{burst}
-use Rattle.store.proofs.Learnt.{meter-unique}
+use Rattle.places.specs.Places.{burst}
+use Rattle.by_meter.proofs.Answers.{meter-unique}
 use Rattle.text.specs.Text.{Wrote, decimalOf, signedOf}
 use Rattle.text.proofs.Digits.{Above, decimal-above, signed-above, decimal-unique, signed-unique, field-unique}
 use Rattle.text.proofs.Writing.{wrote-unique}

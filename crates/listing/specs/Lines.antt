@@ -17,8 +17,8 @@ use Rattle.registers.specs.Registers.{cellCount}
 use Rattle.registers.specs.Answers.{Loads}
 use Rattle.registers.specs.declared.Register.{Register}
 use Rattle.walking.specs.Walks.{Walks}
-use Rattle.store.specs.Places.{burst}
-use Rattle.store.specs.ByMeter.{Asked, LearnsMeter}
+use Rattle.places.specs.Places.{burst, HasPlace}
+use Rattle.by_meter.specs.ByMeter.{LearnsMeter}
 use Rattle.text.specs.Text.{Wrote, decimalOf, signedOf}
 
 -- the ASCII codes of a space and of a line end
@@ -69,7 +69,7 @@ pub data LastTwo (g : Register) : List ℕ → List ℕ → Type 0 where
   past : Walks g allowance 6 0 0 0 → LastTwo g dash dash
 
 pub record HasBits (s : List ℕ) (meter : ℕ) : Type 0 where
-  pub asked : Asked s meter
+  pub asked : HasPlace s meter
   pub some : 0 < length (burst s meter)
 
 pub data Lines (s : List ℕ) (meter : ℕ) : List ℕ → Type 0 where

@@ -32,25 +32,25 @@ pub fn line(store: &[u8], meter: u32, out: &mut [u8; 96]) -> usize
     ensures { λ r. ⌜ Writes (Lines (now (store .entry)) meter) (now (out .entry)) 0 (now (out .exit)) r ⌝ }
     ensures { λ r. ⌜ Counts r (now (out .exit)) ⌝ }
 {
-    match store::learn_meter(store, meter) {
-        store::ByMeter::Answer(f) => {
-            let count = store::bit_count(store, meter);
+    match by_meter::learn_meter(store, meter) {
+        by_meter::ByMeter::Answer(f) => {
+            let count = places::bit_count(store, meter);
             if count == 0 {
                 return 0;
             }
             let next = head(out, meter, count);
             pieces::rest(out, next, f.p, f.q)
         }
-        store::ByMeter::NoneInside => {
-            let count = store::bit_count(store, meter);
+        by_meter::ByMeter::NoneInside => {
+            let count = places::bit_count(store, meter);
             if count == 0 {
                 return 0;
             }
             let next = head(out, meter, count);
             text::word(out, next, b"none\n")
         }
-        store::ByMeter::DamagedStore => 0,
-        store::ByMeter::UnknownMeter => 0,
+        by_meter::ByMeter::NotAStore => 0,
+        by_meter::ByMeter::BadMeter => 0,
     }
 }
 

@@ -22,11 +22,12 @@ use Rattle.store.specs.declared.Room.{Room}
 use Rattle.store.specs.declared.Room.the-variants as R
 use Rattle.store.specs.declared.Answer.{Answer}
 use Rattle.store.specs.declared.Answer.the-variants as A
-use Rattle.store.specs.Places.{isStore, bitsOf, encodeAll}
+use Rattle.places.specs.Places.{isStore, bitsOf, encodeAll}
 use Rattle.store.specs.Taking.{roomOf, appendAll, takeOf, numberOf, placeOf}
-use Rattle.store.proofs.Encode.{Sound}
+use Rattle.places.proofs.Encode.{Sound}
 use Rattle.store.proofs.Taking.{bad-store, bad-form, no-room, taken}
-use Rattle.store.proofs.Kept.{filled-from, is-kept, same-lists, below-all}
+use Rattle.places.proofs.Decode.{is-kept, same-lists, below-all}
+use Rattle.store.proofs.Kept.{filled-from}
 
 pub record Accepted (s b : List ℕ) : Type 0 where
   pub store : isStore s ≡ true

@@ -1,6 +1,5 @@
 -- What taking a block does to one meter's place, m from 1 to 32.
 --
---   burst-count       the count of a place is the number of its bits
 --   store-place       the bytes of a place are the encoding of its bits
 --   take-bits         after a block was taken: the bits before, then those of the records that name the meter, in block order
 --   take-count        so the count grows by exactly the counts of those records
@@ -26,21 +25,15 @@ use Rattle.records.proofs.Walk.{each-record}
 use Rattle.records.proofs.Blocks.{form-parts, parse-append, bits-own}
 use Rattle.records.proofs.Brought.{brought-join, brought-none, brought-count, counts-append}
 use Rattle.store.specs.declared.Answer.the-variants as A
-use Rattle.store.specs.Places.{placeAt, countOf, encode, isStore, bitsAt, bitsOf, fresh, burst}
+use Rattle.places.specs.Places.{placeAt, countOf, encode, isStore, bitsOf, fresh, burst}
 use Rattle.store.specs.Taking.{appendAll, takeOf}
 use Rattle.store.specs.Runs.{placeBytes, Runs, none, then, broughtBy, namedBy}
-use Rattle.store.proofs.Encode.{store-law, length-bitsFrom, place-of}
-use Rattle.store.proofs.Pass.{getD-bitsFrom, length-bitsAt}
-use Rattle.store.proofs.Kept.{by-meter, fresh-empty}
+use Rattle.places.proofs.Encode.{store-law, length-bitsFrom, place-of, burst-count}
+use Rattle.places.proofs.Decode.{fresh-empty}
+use Rattle.store.proofs.Kept.{by-meter}
 use Rattle.store.proofs.After.{taken-parts, take-sound, take-lists, take-kept, take-below}
 
 module _ (m : ℕ) (low : 0 < m) (high : m ≤ meters) where
-  pub burst-at : (s : List ℕ) → burst s m ≡ bitsAt s (placeAt m)
-  burst-at s = getD-bitsFrom meters s 0 (m - 1) (omega arith) ∙ ap (bitsAt s) (omega arith)
-
-  pub burst-count : (s : List ℕ) → length (burst s m) ≡ countOf s (placeAt m)
-  burst-count s = ap length (burst-at s) ∙ length-bitsAt s (placeAt m)
-
   pub store-place : (s : List ℕ) → Below 256 s → isStore s ≡ true → placeBytes s m ≡ encode (burst s m)
   store-place s l e =
       ap (λ (x : List ℕ). placeBytes x m) (store-law s l e .same) ∙ place-of (bitsOf s) (m - 1) (omega (arith, length-bitsFrom meters s 0))
@@ -60,8 +53,8 @@ module _ (m : ℕ) (low : 0 < m) (high : m ≤ meters) where
 
     pub take-count : countOf (takeOf s b .store) (placeAt m) ≡ countOf s (placeAt m) + counts (named m (parse b .records))
     take-count =
-        sym (burst-count (takeOf s b .store)) ∙ ap length take-bits ∙ length-append (burst s m) (brought m (parse b .records))
-        ∙ ap (λ (n : ℕ). n + length (brought m (parse b .records))) (burst-count s) ∙ ap (λ (n : ℕ). countOf s (placeAt m) + n) (brought-count m (parse b .records))
+        sym (burst-count m low high (takeOf s b .store)) ∙ ap length take-bits ∙ length-append (burst s m) (brought m (parse b .records))
+        ∙ ap (λ (n : ℕ). n + length (brought m (parse b .records))) (burst-count m low high s) ∙ ap (λ (n : ℕ). countOf s (placeAt m) + n) (brought-count m (parse b .records))
 
     pub take-untouched : Below 256 s → named m (parse b .records) ≡ [] → placeBytes (takeOf s b .store) m ≡ placeBytes s m
     take-untouched l e =

@@ -1,5 +1,5 @@
 -- Where the room pass and the writing pass stand in the block, and what one record does.
-use Rattle.store.specs.Places.{mostBits, placeSize, storeSize}
+use Rattle.places.specs.Places.{mostBits, placeSize, storeSize}
 use Prim.Native.Nat.{ℕ, zero, suc, _+_, _*_, _-_, _^_, _≤_, _<_}
 use mathlib.Core.Path.{_≡_, refl, sym, ap, _∙_, subst}
 use mathlib.Core.Bool.{Bool, true, false, cond}
@@ -15,16 +15,16 @@ use Rattle.bits.specs.Bits.{num, Below}
 use Rattle.bits.proofs.Numbers.{length-digits, digits-below, below-append}
 use Rattle.records.specs.declared.Record.{Record}
 use Rattle.records.specs.declared.Head.the-variants as H
-use Rattle.store.specs.Places.{placeAt, countOf}
+use Rattle.places.specs.Places.{placeAt, countOf}
 use Rattle.records.specs.Block.{meters, bytesFor, payload, headAt, Entry, entryOf, Parsed, parse}
 use Rattle.records.proofs.Standing.{Stands}
 use Rattle.records.proofs.Walk.{Rest, More, start, more}
 use Rattle.records.proofs.Cond.{yes, no}
 use Rattle.store.specs.declared.Room.the-variants as R
-use Rattle.store.specs.Places.{bitsOf, held, encodeAll, isStore, bitsAt, bitsFrom}
+use Rattle.places.specs.Places.{bitsOf, held, encodeAll, isStore}
 use Rattle.store.specs.Taking.{appendTo, appendAll, roomOf}
-use Rattle.store.specs.Appending.{appended, PlaceFits}
-use Rattle.store.proofs.Encode.{Sound, sound-low, Lists, all-sound, store-parts, length-bitsFrom, lists-long, count-of, held-num, append-law}
+use Rattle.places.specs.Appending.{appended, PlaceFits}
+use Rattle.places.proofs.Encode.{getD-bitsFrom, length-bitsAt, Sound, sound-low, Lists, all-sound, store-parts, length-bitsFrom, lists-long, count-of, held-num, append-law}
 
 pub same-or-not : (i k : ℕ) → (i ≡ k) ⊎ (i ≡ k → ⊥)
 same-or-not i k = go (eqb i k) refl
@@ -44,18 +44,6 @@ pub record Tallied (s b used : List ℕ) (at : ℕ) : Type 0 where
   pub rest : Parsed
   pub walk : Rest b at rest
   pub same : roomOf lists (rest .records) ≡ roomOf (bitsOf s) (parse b .records)
-
-pub getD-bitsFrom : (n : ℕ) (s : List ℕ) (at k : ℕ) → k < n → getD (bitsFrom n s at) k [] ≡ bitsAt s (at + placeSize * k)
-unfolding bitsFrom
-getD-bitsFrom zero s at k h = absurd (omega arith)
-getD-bitsFrom (suc n) s at zero h = ap (bitsAt s) (omega arith)
-getD-bitsFrom (suc n) s at (suc k) h =
-    let e : at + placeSize + placeSize * k ≡ at + placeSize * suc k = omega arith in
-    getD-bitsFrom n s (at + placeSize) k (omega arith) ∙ ap (bitsAt s) e
-
-pub length-bitsAt : (s : List ℕ) (at : ℕ) → length (bitsAt s at) ≡ countOf s at
-unfolding bitsAt
-length-bitsAt s at = length-digits 2 (countOf s at) (num 256 (held s at))
 
 getD-zeros : (n k : ℕ) → getD {A = ℕ} (replicate n 0) k 0 ≡ 0
 getD-zeros zero k = refl

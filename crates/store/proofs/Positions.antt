@@ -17,7 +17,7 @@ use Rattle.records.proofs.Blocks.{form-parts}
 use Rattle.store.specs.declared.Room.{Room}
 use Rattle.store.specs.declared.Room.the-variants as R
 use Rattle.store.specs.declared.Answer.{Answer}
-use Rattle.store.specs.Places.{mostBits, isStore, bitsOf, encodeAll}
+use Rattle.places.specs.Places.{mostBits, isStore, bitsOf, encodeAll}
 use Rattle.store.specs.Taking.{appendTo, appendAll, roomOf, takeOf, placeOf}
 use Rattle.store.proofs.Taking.{bad-store, bad-form, no-room, taken}
 

@@ -11,7 +11,7 @@ use Rattle.store.specs.declared.Room.{Room}
 use Rattle.store.specs.declared.Room.the-variants as R
 use Rattle.store.specs.declared.Answer.{Answer}
 use Rattle.store.specs.declared.Answer.the-variants as A
-use Rattle.store.specs.Places.{bitsOf, isStore, encodeAll}
+use Rattle.places.specs.Places.{bitsOf, isStore, encodeAll}
 use Rattle.store.specs.Taking.{roomOf, appendAll, onRoom, Took, takeOf}
 
 both : {a : Answer} {s : List ℕ} (t : Took) → t ≡ record { answer = a; store = s } → (a ≡ t .answer) × (s ≡ t .store)

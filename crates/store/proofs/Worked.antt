@@ -11,9 +11,9 @@ use Rattle.records.proofs.Blocks.{form-whole}
 use Rattle.records.specs.declared.Form.the-variants as F
 use Rattle.store.specs.declared.Room.the-variants as R
 use Rattle.store.specs.declared.Answer.the-variants as A
-use Rattle.store.specs.Places.{burst, fresh}
+use Rattle.places.specs.Places.{burst, fresh}
 use Rattle.store.specs.Taking.{roomOf, takeOf}
-use Rattle.store.proofs.Kept.{fresh-store, fresh-lists, fresh-empty}
+use Rattle.places.proofs.Decode.{fresh-store, fresh-lists, fresh-empty}
 use Rattle.store.proofs.Taking.{taken}
 use Rattle.store.proofs.Meters.{take-bits}
 

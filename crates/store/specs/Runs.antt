@@ -10,7 +10,7 @@ use mathlib.Core.List.{List, [], _∷_, _++_}
 use lib.ListN.{take, drop}
 use Rattle.records.specs.Block.{Entry, parse}
 use Rattle.records.specs.Named.{named, brought}
-use Rattle.store.specs.Places.{placeSize, placeAt}
+use Rattle.places.specs.Places.{placeSize, placeAt}
 use Rattle.store.specs.Taking.{takeOf}
 use Rattle.store.specs.declared.Answer.the-variants.{Taken}
 

@@ -14,7 +14,7 @@ use Rattle.records.specs.Block as block
 use Rattle.records.specs.Block.{Entry, parse, formOf}
 use Rattle.records.specs.declared.Form.{Form}
 use Rattle.records.specs.declared.Form.the-variants as F
-use Rattle.store.specs.Places.{mostBits, isStore, bitsOf, encodeAll}
+use Rattle.places.specs.Places.{mostBits, isStore, bitsOf, encodeAll}
 use Rattle.store.specs.declared.Room.{Room}
 use Rattle.store.specs.declared.Room.the-variants as R
 use Rattle.store.specs.declared.Answer.{Answer}

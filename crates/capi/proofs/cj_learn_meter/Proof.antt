@@ -4,8 +4,8 @@ use mir.Syntax.{w32}
 use mir.ValLaws.{toZ-ofZ}
 use mathlib.Core.List.{List}
 use Prim.Native.Nat.{ℕ}
-use Rattle.store.specs.ByMeter.{LearnsMeter, meterNumber, meterP, meterQ}
-use Rattle.store.specs.declared.ByMeter.{ByMeter}
+use Rattle.by_meter.specs.ByMeter.{LearnsMeter, meterNumber, meterP, meterQ}
+use Rattle.by_meter.specs.declared.ByMeter.{ByMeter}
 use Rattle.capi.specs.declared.Fraction.{Fraction}
 use borrow.Author.Needs.{needs}
 use Rattle.capi.proofs.cj_learn_meter.Statement.{statement}

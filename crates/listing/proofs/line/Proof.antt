@@ -2,7 +2,7 @@
 use native.Mathlib.Omega.{arith}
 use mir.Syntax.{w32}
 use mir.ValLaws.{toZ-ofZ}
-use Rattle.store.specs.ByMeter.{LearnsMeter}
+use Rattle.by_meter.specs.ByMeter.{LearnsMeter}
 use Rattle.listing.proofs.Meters.{both, learns-answer, learns-none, answer-asked, answer-inside, none-asked, line-empty, line-damaged, line-unknown, line-fraction, line-none}
 use borrow.Author.Needs.{needs}
 use Rattle.listing.proofs.line.Statement.{statement}

@@ -7,7 +7,7 @@ use borrow.Author.Needs.{needs}
 use Rattle.records.specs.Block.{Parsed}
 use Rattle.records.proofs.Standing.{found-stands}
 use Rattle.records.proofs.Walk.{refused, ended}
-use Rattle.store.proofs.Encode.{store-parts}
+use Rattle.places.proofs.Encode.{store-parts}
 use Rattle.store.proofs.Pass.{Tallied, tallied-start, tallied-full, tallied-more, tallied-end, meter-in}
 use Rattle.store.proofs.room_for.Statement.{statement}
 use Rattle.store.proofs.room_for.Tie as tie

@@ -7,7 +7,7 @@ use borrow.Author.Needs.{needs}
 use Rattle.records.specs.Block.{Parsed}
 use Rattle.records.proofs.Standing.{found-stands}
 use Rattle.records.proofs.Walk.{refused, ended}
-use Rattle.store.proofs.Encode.{store-law, store-parts, lists-long}
+use Rattle.places.proofs.Encode.{store-law, store-parts, lists-long}
 use Rattle.store.proofs.Pass.{Writing, writing-start, writing-end, fits-put, writes-put, store-long}
 use Rattle.store.proofs.write_all.Statement.{statement}
 use Rattle.store.proofs.write_all.Tie as tie

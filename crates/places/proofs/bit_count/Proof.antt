@@ -1,12 +1,12 @@
--- `store::bit_count` meets its contract: the count of a place is the number of its bits.
+-- `places::bit_count` meets its contract: the count of a place is the number of its bits.
 use mathlib.Core.Path.{sym, ap, _∙_}
 use native.Mathlib.Omega.{arith}
-use Rattle.store.specs.Places.{countOf}
-use Rattle.store.proofs.Encode.{store-parts}
-use Rattle.store.proofs.Meters.{burst-count}
+use Rattle.places.specs.Places.{countOf}
+use Rattle.places.proofs.Encode.{store-parts}
+use Rattle.places.proofs.Encode.{burst-count}
 use borrow.Author.Needs.{needs}
-use Rattle.store.proofs.bit_count.Statement.{statement}
-use Rattle.store.proofs.bit_count.Tie as tie
+use Rattle.places.proofs.bit_count.Statement.{statement}
+use Rattle.places.proofs.bit_count.Tie as tie
 
 place-at-requires : tie.Need-place-at-requires
 place-at-requires c κs = search needs

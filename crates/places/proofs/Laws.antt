@@ -1,5 +1,5 @@
 -- Laws on places and stores.
-use Rattle.store.specs.Places.{countOffset, bitsOffset, bitBytes, mostBits, placeSize, storeSize}
+use Rattle.places.specs.Places.{countOffset, bitsOffset, bitBytes, mostBits, placeSize, storeSize}
 use Prim.Native.Nat.{ℕ, zero, suc, _+_, _*_, _-_, _/_, _%_, _^_, _≤_, _<_}
 use mathlib.Core.Path.{_≡_, refl, sym, ap, _∙_, subst}
 use mathlib.Core.Bool.{Bool, true, false, cond}
@@ -16,9 +16,9 @@ use borrow.Author.Tests.{le-leb, lt-leb, eq-eqb}
 use Rattle.bits.specs.Bits.{num, digits}
 use Rattle.bits.specs.Inner.{MoreFits}
 use Rattle.bits.proofs.Numbers.{length-digits, pow8}
-use Rattle.store.specs.Places.{countOf}
-use Rattle.store.specs.Places.{held, isPlace, placesFrom, isStore}
-use Rattle.store.specs.Appending.{appended, PlaceFits}
+use Rattle.places.specs.Places.{countOf}
+use Rattle.places.specs.Places.{held, isPlace, placesFrom, isStore}
+use Rattle.places.specs.Appending.{appended, PlaceFits}
 
 pub length-held : (s : List ℕ) (at : ℕ) → at + placeSize ≤ length s → length (held s at) ≡ bitBytes
 length-held s at h = length-take-le bitBytes (drop (at + 2) s) (rw length-drop (omega arith))
@@ -94,11 +94,9 @@ pub place-no : (s : List ℕ) (at n : ℕ) → n ≡ countOf s at → mostBits <
 unfolding isPlace
 place-no s at n e h = sym (no _ _ (lt-leb (countOf s at) mostBits (omega arith)))
 
-pub place-yes : (s : List ℕ) (at n : ℕ) (r : Bool) → n ≡ countOf s at → n ≤ mostBits → r ≡ ltb (num 256 (take (at + placeSize - (at + 2)) (drop (at + 2) s))) (2 ^ n) → r ≡ isPlace s at
+pub place-yes : (s : List ℕ) (at n : ℕ) (r : Bool) → n ≡ countOf s at → n ≤ mostBits → r ≡ ltb (num 256 (held s at)) (2 ^ n) → r ≡ isPlace s at
 unfolding isPlace
-place-yes s at n r e h f =
-    let q : at + placeSize - (at + 2) ≡ bitBytes = omega arith in
-    f ∙ ap (λ (k : ℕ). ltb (num 256 (take k (drop (at + 2) s))) (2 ^ n)) q ∙ ap (λ (k : ℕ). ltb (num 256 (held s at)) (2 ^ k)) e ∙ sym (yes _ _ (le-leb (countOf s at) mostBits (omega arith)))
+place-yes s at n r e h f = f ∙ ap (λ (k : ℕ). ltb (num 256 (held s at)) (2 ^ k)) e ∙ sym (yes _ _ (le-leb (countOf s at) mostBits (omega arith)))
 
 -- where `is_store` stands: the places from `at` on decide
 pub record Checked (s : List ℕ) (at : ℕ) : Type 0 where

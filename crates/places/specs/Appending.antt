@@ -8,7 +8,7 @@ use mathlib.Core.List.{List, _∷_, _++_}
 use lib.ListN.{length, take, drop}
 use Rattle.bits.specs.Bits.{num, digits}
 use Rattle.records.specs.Block.{bytesFor}
-use Rattle.store.specs.Places.{placeSize, bitBytes, mostBits, held}
+use Rattle.places.specs.Places.{placeSize, bitBytes, mostBits, held}
 
 pub record PlaceFits (s : List ℕ) (at have : ℕ) (payload : List ℕ) (count : ℕ) : Type 0 where
   pub inside : at + placeSize ≤ length s

@@ -17,11 +17,11 @@ use Rattle.fractions.proofs.Order.{smallest-unique}
 use Rattle.records.specs.Block.{meters}
 use Rattle.learning.specs.Learning as L
 use Rattle.learning.specs.Learning.{Learns}
-use Rattle.store.specs.Places.{isStore, burst}
-use Rattle.store.specs.ByMeter.{Asked, LearnsMeter, answer, damaged, unknown, none}
-use Rattle.store.proofs.Bursts.{Holds}
+use Rattle.places.specs.Places.{isStore, burst, HasPlace}
+use Rattle.by_meter.specs.ByMeter.{LearnsMeter, answer, damaged, unknown, none}
+use Rattle.places.proofs.Bursts.{Holds}
 
-module _ (s : List ℕ) (meter : ℕ) (bytes : List ℕ) (n : ℕ) (a : Asked s meter) (h : Holds bytes n (burst s meter)) where
+module _ (s : List ℕ) (meter : ℕ) (bytes : List ℕ) (n : ℕ) (a : HasPlace s meter) (h : Holds bytes n (burst s meter)) where
   pub meter-answer : {p : ℤ} {q : ℕ} → Learns bytes n 0 p q → LearnsMeter s meter 0 p q
   meter-answer {p} {q} (L.answer e f) = answer a (subst₂ (λ (k A : ℕ). Smallest k A p q) (h .count-is) (h .value-is) f)
 
@@ -38,7 +38,7 @@ module _ (s : List ℕ) (meter : ℕ) (bytes : List ℕ) (n : ℕ) (a : Asked s 
 differ : (b : Bool) → b ≡ true → b ≡ false → ⊥
 differ b e d = let z : true ≡ false = sym e ∙ d in let y : _≡_ {A = ℕ} 0 1 = cc in omega arith
 
-outside : (s : List ℕ) (meter : ℕ) → Asked s meter → (meter ≡ 0) ⊎ (meters < meter) → ⊥
+outside : (s : List ℕ) (meter : ℕ) → HasPlace s meter → (meter ≡ 0) ⊎ (meters < meter) → ⊥
 outside s meter a (inl e) = omega (arith, a .low)
 outside s meter a (inr l) = omega (arith, a .high)
 

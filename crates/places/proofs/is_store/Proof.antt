@@ -1,14 +1,14 @@
--- `store::is_store` meets its contract: the places from `at` on decide. The measure is the bytes left.
-use Rattle.store.specs.Places.{storeSize}
+-- `places::is_store` meets its contract: the places from `at` on decide. The measure is the bytes left.
+use Rattle.places.specs.Places.{storeSize}
 use Prim.Native.Nat.{_-_}
 use mathlib.Core.Path.{sym, _∙_}
 use native.Mathlib.Omega.{arith}
 use borrow.Author.Tests.{ne-eqb, not-true, not-false}
 use Rattle.records.proofs.Cond.{no}
-use Rattle.store.specs.Places.{isStore}
-use Rattle.store.proofs.Laws.{Checked, checked-start, checked-some, checked-no, checked-more, checked-all}
-use Rattle.store.proofs.is_store.Statement.{statement}
-use Rattle.store.proofs.is_store.Tie as tie
+use Rattle.places.specs.Places.{isStore}
+use Rattle.places.proofs.Laws.{Checked, checked-start, checked-some, checked-no, checked-more, checked-all}
+use Rattle.places.proofs.is_store.Statement.{statement}
+use Rattle.places.proofs.is_store.Tie as tie
 
 abbrev Inv-loop : tie.InvT-loop
 Inv-loop store at₀ at = Checked store at

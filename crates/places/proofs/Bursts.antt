@@ -12,18 +12,18 @@ use mathlib.Core.Path.{_≡_, sym, ap, _∙_, subst}
 use mathlib.Core.Bool.{true}
 use mathlib.Core.List.{List, [], _∷_, append-nil}
 use native.Mathlib.Omega.{arith}
-use lib.ListN.{length, getD, take, drop}
+use lib.ListN.{length, getD, drop}
 use lib.Seq.{take-all, getD-drop}
 use Rattle.bits.specs.Bits.{num, Below, bitAt, value}
 use Rattle.bits.proofs.Laws.{below-take}
 use Rattle.bits.proofs.Bits.{spare-zero}
 use Rattle.bits.proofs.Values.{value-bits}
 use Rattle.records.specs.Block.{meters}
-use Rattle.store.specs.Places.{placeSize, bitsOffset, bitBytes, mostBits, placeAt, countOf, held, encode, encodeAll, isPlace, isStore, bitsAt, bitsOf, burst}
-use Rattle.store.proofs.Laws.{length-held}
-use Rattle.store.proofs.Encode.{Sound, place-parts, place-law, store-law, store-parts, all-sound}
-use Rattle.store.proofs.Kept.{place-kept, place-back, is-kept, same-lists}
-use Rattle.store.proofs.Meters.{burst-at, burst-count}
+use Rattle.places.specs.Places.{placeSize, bitsOffset, bitBytes, mostBits, placeAt, countOf, held, encode, encodeAll, isPlace, isStore, bitsAt, bitsOf, burst}
+use Rattle.places.proofs.Laws.{length-held}
+use Rattle.places.proofs.Encode.{Sound, place-parts, place-law, store-law, store-parts, all-sound}
+use Rattle.places.proofs.Decode.{place-kept, place-back, is-kept, same-lists}
+use Rattle.places.proofs.Encode.{burst-at, burst-count}
 
 below-held : (s : List ℕ) (at : ℕ) → Below 256 s → Below 256 (held s at)
 below-held s at l = below-take 256 (drop (at + bitsOffset) s) bitBytes (omega arith) (λ i. subst (λ (n : ℕ). n < 256) (sym (getD-drop (at + bitsOffset) s i 0)) (l (at + bitsOffset + i)))
@@ -71,9 +71,8 @@ module _ (s : List ℕ) (meter : ℕ) (l : Below 256 s) (e : isStore s ≡ true)
         there = omega (arith, length-held s (placeAt meter) place-in);
       }
 
-  pub part-holds : (at n : ℕ) → at ≡ placeAt meter → n ≡ countOf s at → Holds (take (at + placeSize - (at + bitsOffset)) (drop (at + bitsOffset) s)) n (burst s meter)
-  part-holds at n p q =
-      let k : bitBytes ≡ at + placeSize - (at + bitsOffset) = omega arith in
-      subst (λ (j : ℕ). Holds (take j (drop (at + bitsOffset) s)) n (burst s meter)) k
+  pub part-holds : (bytes : List ℕ) (at n : ℕ) → bytes ≡ held s at → at ≡ placeAt meter → n ≡ countOf s at → Holds bytes n (burst s meter)
+  part-holds bytes at n b p q =
+      subst (λ (x : List ℕ). Holds x n (burst s meter)) (sym b)
       (subst (λ (j : ℕ). Holds (held s at) j (burst s meter)) (sym q)
       (subst (λ (j : ℕ). Holds (held s j) (countOf s j) (burst s meter)) (sym p) burst-holds))

@@ -1,11 +1,11 @@
--- `store::append_bits` meets its contract: two stores put the count, and adding bits puts their number into the 512 bytes behind it.
+-- `places::append_bits` meets its contract: two stores put the count, and adding bits puts their number into the 512 bytes behind it.
 use mathlib.Core.Path.{_∙_, ap}
 use native.Mathlib.Omega.{arith}
 use lib.ListN.{length, length-set}
-use Rattle.store.proofs.Laws.{part-fits, put-part, length-appended}
+use Rattle.places.proofs.Laws.{part-fits, put-part, length-appended}
 use borrow.Author.Needs.{needs}
-use Rattle.store.proofs.append_bits.Statement.{statement}
-use Rattle.store.proofs.append_bits.Tie as tie
+use Rattle.places.proofs.append_bits.Statement.{statement}
+use Rattle.places.proofs.append_bits.Tie as tie
 
 add-n : tie.Need-add-n
 add-n c = search needs

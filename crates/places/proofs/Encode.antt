@@ -1,5 +1,5 @@
 -- A store that keeps the rules is the encoding of its 32 lists of bits, and appending to a place is appending to its list.
-use Rattle.store.specs.Places.{countOffset, bitBytes, mostBits, placeSize, storeSize}
+use Rattle.places.specs.Places.{countOffset, bitBytes, mostBits, placeSize, storeSize, placeAt, countOf, burst}
 use Prim.Native.Nat.{ℕ, zero, suc, _+_, _*_, _-_, _/_, _%_, _^_, _≤_, _<_}
 use mathlib.Core.Path.{_≡_, refl, sym, ap, _∙_, subst}
 use mathlib.Core.Bool.{Bool, true, false, cond}
@@ -15,11 +15,10 @@ use borrow.Author.Tests.{ltb-true, leb-true, eqb-true}
 use Rattle.bits.specs.Bits.{num, digits, Below}
 use Rattle.bits.proofs.Numbers.{num-append, num-digits, digits-num, length-digits, digits-below, num-lt, pow8}
 use Rattle.bits.proofs.Laws.{below-take}
-use Rattle.store.specs.Places.{countOf}
 use Rattle.records.specs.Block.{meters}
-use Rattle.store.specs.Places.{bitsOf, held, encode, encodeAll, isPlace, placesFrom, isStore, bitsAt, bitsFrom}
-use Rattle.store.specs.Appending.{appended}
-use Rattle.store.proofs.Laws.{length-held}
+use Rattle.places.specs.Places.{bitsOf, held, encode, encodeAll, isPlace, placesFrom, isStore, bitsAt, bitsFrom}
+use Rattle.places.specs.Appending.{appended}
+use Rattle.places.proofs.Laws.{length-held}
 
 -- what a test of tests says
 pub both : (t u : Bool) → cond t u false ≡ true → (t ≡ true) × (u ≡ true)
@@ -217,3 +216,23 @@ module _ (l : List (List ℕ)) (k : ℕ) (h : k < length l) where
 
 pub lists-long : (s : List ℕ) (l : List (List ℕ)) → Lists s l → length s ≡ storeSize
 lists-long s l k = ap length (k .same) ∙ length-encodeAll l ∙ ap (λ (n : ℕ). placeSize * n) (k .size)
+
+-- ---- the bits of one place
+pub getD-bitsFrom : (n : ℕ) (s : List ℕ) (at k : ℕ) → k < n → getD (bitsFrom n s at) k [] ≡ bitsAt s (at + placeSize * k)
+unfolding bitsFrom
+getD-bitsFrom zero s at k h = absurd (omega arith)
+getD-bitsFrom (suc n) s at zero h = ap (bitsAt s) (omega arith)
+getD-bitsFrom (suc n) s at (suc k) h =
+    let e : at + placeSize + placeSize * k ≡ at + placeSize * suc k = omega arith in
+    getD-bitsFrom n s (at + placeSize) k (omega arith) ∙ ap (bitsAt s) e
+
+pub length-bitsAt : (s : List ℕ) (at : ℕ) → length (bitsAt s at) ≡ countOf s at
+unfolding bitsAt
+length-bitsAt s at = length-digits 2 (countOf s at) (num 256 (held s at))
+
+module _ (m : ℕ) (low : 0 < m) (high : m ≤ meters) where
+  pub burst-at : (s : List ℕ) → burst s m ≡ bitsAt s (placeAt m)
+  burst-at s = getD-bitsFrom meters s 0 (m - 1) (omega arith) ∙ ap (bitsAt s) (omega arith)
+
+  pub burst-count : (s : List ℕ) → length (burst s m) ≡ countOf s (placeAt m)
+  burst-count s = ap length (burst-at s) ∙ length-bitsAt s (placeAt m)

@@ -11,7 +11,9 @@
 --   bitsOf s               the bits of each place, by rising meter number
 --   fresh                  "A fresh store is all zero."
 --   burst s meter          "A learn request by meter number uses that place's bits."
-use Prim.Native.Nat.{ℕ, zero, suc, _+_, _-_, _*_, _/_, _%_, _^_}
+--   HasPlace s meter       the store keeps the rules, and "meter number .. 1 to 32"
+use Prim.Native.Nat.{ℕ, zero, suc, _+_, _-_, _*_, _/_, _%_, _^_, _≤_, _<_}
+use mathlib.Core.Path.{_≡_}
 use mathlib.Core.List.{List, [], _∷_, _++_}
 use mathlib.Core.Bool.{Bool, true, false, cond}
 use lib.ListN.{length, getD, take, drop, replicate}
@@ -80,3 +82,8 @@ fresh = replicate storeSize 0
 
 abbrev pub burst : List ℕ → ℕ → List ℕ
 burst s meter = getD (bitsOf s) (meter - 1) []
+
+pub record HasPlace (s : List ℕ) (meter : ℕ) : Type 0 where
+  pub store : isStore s ≡ true
+  pub low : 0 < meter
+  pub high : meter ≤ meters
