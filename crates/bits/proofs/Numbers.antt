@@ -1,5 +1,5 @@
 -- One law for each fact on digits and numbers, over the base.
-use Prim.Native.Nat.{ℕ, zero, suc, _+_, _*_, _-_, _/_, _%_, _^_, _≤_, _<_}
+use Prim.Native.Nat.{ℕ, zero, suc, _+_, _*_, _/_, _%_, _^_, _≤_, _<_}
 use mathlib.Core.Path.{_≡_, refl, sym, ap, _∙_}
 use mathlib.Core.List.{List, [], _∷_, _++_}
 use native.Mathlib.Nat.{pow-succ', pow-suc, pow-zero, mod-add-div, mod-lt, mod-eq-of-lt, div-eq-of-lt, add-mul-mod-self-left, add-mul-div-left, div-lt-iff-lt-mul, mul-le-mul-left, div-div-eq-div-mul, div-one, zero-add}

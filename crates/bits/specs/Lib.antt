@@ -1,3 +1,2 @@
--- The root of the specs: Bits has the words of the document, Inner the words of private functions.
+-- The root of the specs: Bits has the words of the document.
 pub mod Bits
-pub mod Inner

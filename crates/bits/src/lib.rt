@@ -1,12 +1,11 @@
-// Bytes and bits: reading a bit or a window of bits, testing that no bit stands past a count, appending bits.
-// The contracts cite Bits of specs/.
+// Bytes and bits: reading one, and testing that no bit stands past a count. The contracts cite Bits of specs/.
 ghost use mathlib.Core.Path.{_≡_};
-ghost use Prim.Native.Nat.{ℕ, _+_, _*_, _<_, _≤_, _%_, _^_};
-ghost use lib.ListN.{length, getD, set};
+ghost use Prim.Native.Nat.{_<_, _^_};
+ghost use lib.ListN.{getD};
 ghost use lib.Dec.{ltb};
-ghost use Rattle.bits.specs.Bits.{num, digits, bitAt, window};
-ghost use Rattle.bits.specs.Inner.{fiveFrom, WordFits, MoreFits};
+ghost use Rattle.bits.specs.Bits.{num, bitAt};
 
+// A byte as a number.
 pub fn wide(x: u8) -> usize
     ensures { λ r. ⌜ (r ≡ x) × (r < 256) ⌝ }
 {
@@ -29,55 +28,8 @@ pub fn bit_at(bytes: &[u8], i: usize) -> usize
     (byte >> k) % 2
 }
 
-// The lowest m bits of x.
-fn low(x: usize, m: usize) -> usize
-    requires { ⌜ m < 64 ⌝ }
-    ensures { λ r. ⌜ r ≡ x % 2 ^ m ⌝ }
-{
-    x % (1 << m)
-}
-
-// Five bytes from byte j on as one number, lowest first; they are there, so none is tested for.
-fn five_inside(bytes: &[u8], j: usize) -> usize
-    requires { ⌜ j + 5 ≤ length (now bytes) ⌝ }
-    ensures { λ r. ⌜ (r ≡ fiveFrom (now (bytes .entry)) j) × (r < 2 ^ 40) ⌝ }
-{
-    let a = wide(bytes[j]);
-    let b = wide(bytes[j + 1]);
-    let c = wide(bytes[j + 2]);
-    let d = wide(bytes[j + 3]);
-    let e = wide(bytes[j + 4]);
-    a + 256 * b + 65536 * c + 16777216 * d + 4294967296 * e
-}
-
-// The same, zeros past the end.
-fn five_from(bytes: &[u8], j: usize) -> usize
-    requires { ⌜ j < 2 ^ 62 ⌝ }
-    ensures { λ r. ⌜ (r ≡ fiveFrom (now (bytes .entry)) j) × (r < 2 ^ 40) ⌝ }
-{
-    if j + 5 <= bytes.len() {
-        return five_inside(bytes, j);
-    }
-    let a = byte_at(bytes, j);
-    let b = byte_at(bytes, j + 1);
-    let c = byte_at(bytes, j + 2);
-    let d = byte_at(bytes, j + 3);
-    let e = byte_at(bytes, j + 4);
-    a + 256 * b + 65536 * c + 16777216 * d + 4294967296 * e
-}
-
-// Bits i to i + m - 1, zeros past the end. Not an entry point: its callers in other crates show that m is small.
-pub fn bits_from(bytes: &[u8], i: usize, m: usize) -> usize
-    requires { ⌜ (i < 2 ^ 62) × (m ≤ 32) ⌝ }
-    ensures { λ r. ⌜ r ≡ window (now (bytes .entry)) i m ⌝ }
-{
-    let all = five_from(bytes, i / 8);
-    let k = i % 8;
-    low(all >> k, m)
-}
-
-// Whether the number of the bytes, lowest first, is below 2 to the count: no bit at or past the count is set.
-pub fn fits(bytes: &[u8], count: usize) -> bool
+// Whether no bit at or past the count is set: the number of the bytes, lowest first, is below 2 to the count.
+pub fn clear_past(bytes: &[u8], count: usize) -> bool
     ensures { λ r. ⌜ r ≡ ltb (num 256 (now (bytes .entry))) (2 ^ count) ⌝ }
 {
     // no bit of the bytes before this one is at or past the count
@@ -95,38 +47,4 @@ pub fn fits(bytes: &[u8], count: usize) -> bool
         i += 1;
     }
     true
-}
-
-fn add_byte(bytes: &mut [u8], i: usize, d: usize)
-    requires { ⌜ (i < length (now bytes)) × (getD (now bytes) i 0 + d < 256) ⌝ }
-    ensures { λ _. ⌜ now (bytes .exit) ≡ set (now (bytes .entry)) i (getD (now (bytes .entry)) i 0 + d) ⌝ }
-{
-    bytes[i] = (wide(bytes[i]) + d) as u8;
-}
-
-// Adds a word of two bytes at byte i.
-fn add_word(bytes: &mut [u8], i: usize, w: usize)
-    requires { ⌜ WordFits (now bytes) i w ⌝ }
-    ensures { λ _. ⌜ (length (now (bytes .exit)) ≡ length (now (bytes .entry))) × (num 256 (now (bytes .exit)) ≡ num 256 (now (bytes .entry)) + 256 ^ i * w) ⌝ }
-{
-    add_byte(bytes, i, w % 256);
-    let high = w / 256;
-    if high != 0 {
-        add_byte(bytes, i + 1, high);
-    }
-}
-
-// Adds the bits of `more` to `bytes`, which hold `have` bits. Not an entry point: its callers in other crates show that there is room.
-pub fn add_bits(bytes: &mut [u8], have: usize, more: &[u8])
-    requires { ⌜ MoreFits (now bytes) have (now more) ⌝ }
-    ensures { λ _. ⌜ now (bytes .exit) ≡ digits 256 (length (now (bytes .entry))) (num 256 (now (bytes .entry)) + 2 ^ have * num 256 (now (more .entry))) ⌝ }
-{
-    let shift = have % 8;
-    let from = have / 8;
-    let mut j = 0;
-    while j < more.len() {
-        let w = wide(more[j]) << shift;
-        add_word(bytes, from + j, w);
-        j += 1;
-    }
 }

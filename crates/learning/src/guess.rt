@@ -16,8 +16,8 @@ pub struct Convergent {
 pub fn first61(bytes: &[u8]) -> usize
     ensures { λ r. ⌜ (r ≡ value (now (bytes .entry)) 61) × (r < 2 ^ 61) ⌝ }
 {
-    let low = bits::bits_from(bytes, 0, 32);
-    let high = bits::bits_from(bytes, 32, 29);
+    let low = packing::bits_from(bytes, 0, 32);
+    let high = packing::bits_from(bytes, 32, 29);
     low + 4294967296 * high
 }
 

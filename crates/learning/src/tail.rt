@@ -57,7 +57,7 @@ pub fn fits(bytes: &[u8], n: usize, p: i64, q: usize) -> bool
     let mut i: usize = 0;
     while i < n {
         let m = at_most_32(n - i);
-        let d = offset(x, bits::bits_from(bytes, i, m), q);
+        let d = offset(x, packing::bits_from(bytes, i, m), q);
         if is_whole(d, m) {
             x = shifted(d, m);
             i += m;

@@ -24,10 +24,10 @@ fn run(cases: &[u8])
 {
     let mut at = 0;
     while at + 10 <= cases.len() {
-        let low = bits::bits_from(cases, 8 * at, 32);
-        let high = bits::bits_from(cases, 8 * at + 32, 32);
+        let low = packing::bits_from(cases, 8 * at, 32);
+        let high = packing::bits_from(cases, 8 * at + 32, 32);
         let start = at + 10;
-        let end = start + bits::bits_from(cases, 8 * at + 64, 16);
+        let end = start + packing::bits_from(cases, 8 * at + 64, 16);
         if cases.len() < end {
             return;
         }

@@ -14,7 +14,7 @@ use Rattle.records.proofs.Cond.{yes, no}
 use lib.Dec.{ltb}
 use borrow.Author.Tests.{le-leb, lt-leb, eq-eqb}
 use Rattle.bits.specs.Bits.{num, digits}
-use Rattle.bits.specs.Inner.{MoreFits}
+use Rattle.packing.specs.Inner.{MoreFits}
 use Rattle.bits.proofs.Numbers.{length-digits, pow8}
 use Rattle.places.specs.Places.{countOf}
 use Rattle.places.specs.Places.{held, isPlace, placesFrom, isStore}

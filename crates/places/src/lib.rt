@@ -52,7 +52,7 @@ fn is_place(store: &[u8], at: usize) -> bool
     if MOST_BITS < count {
         return false;
     }
-    bits::fits(bit_bytes(store, at), count)
+    bits::clear_past(bit_bytes(store, at), count)
 }
 
 // Whether the bytes are a store: 16,448 of them, and every place keeps the rules.
@@ -83,7 +83,7 @@ pub fn append_bits(store: &mut [u8], at: usize, have: usize, payload: &[u8], cou
     store[high + 1] = (n % 256) as u8;
     let from = at + BITS_AT;
     let to = at + PLACE_SIZE;
-    bits::add_bits(&mut store[from..to], have, payload);
+    packing::add_bits(&mut store[from..to], have, payload);
 }
 
 // The number of bits of a meter's place. Not an entry point: its callers in other crates show that the store keeps the rules and has the meter.

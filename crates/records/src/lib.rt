@@ -117,7 +117,7 @@ fn judge(block: &[u8], at: usize, mark: usize, meter: usize, count: usize) -> He
         return Head::Refused(Refusal::RunsPast(at));
     }
     let next = start + bytes;
-    if bits::fits(&block[start..next], count) {
+    if bits::clear_past(&block[start..next], count) {
         Head::Found(Record {
             meter: meter,
             count: count,

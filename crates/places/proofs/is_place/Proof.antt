@@ -20,16 +20,16 @@ returns c =
 bit-bytes-requires : tie.Need-bit-bytes-requires
 bit-bytes-requires c κs = search needs
 
-fits-requires : tie.Need-fits-requires
-fits-requires c κs = search needs
+clear-past-requires : tie.Need-clear-past-requires
+clear-past-requires c κs = search needs
 
 returns-2 : tie.Need-returns-2
 returns-2 c =
     let a = c .before .before .before .before .before .args in
     place-yes (a .store .now) (a .at) _ _ (c .before .before .before .count-of .ensures .0) (c .before .before .if1 .left)
-    (c .fits2 .ensures ∙ ap (λ (l : List ℕ). ltb (num 256 l) (2 ^ c .before .before .before .count-of .result)) (c .before .bit-bytes .ensures))
+    (c .clear-past .ensures ∙ ap (λ (l : List ℕ). ltb (num 256 l) (2 ^ c .before .before .before .count-of .result)) (c .before .bit-bytes .ensures))
 
 pub is-place-spec : {M : Type 1} → statement M
 is-place-spec =
     tie.close
-    (tie.spec count-of-requires returns bit-bytes-requires fits-requires returns-2)
+    (tie.spec count-of-requires returns bit-bytes-requires clear-past-requires returns-2)

@@ -56,30 +56,30 @@ returns-6 c = sym (yes _ _ (eq-eqb _ _ (c .before .before .before .before .befor
 add-next : tie.Need-add-next
 add-next c = search needs
 
-sub-fits : tie.Need-sub-fits
-sub-fits c = search needs
+sub-clear-past : tie.Need-sub-clear-past
+sub-clear-past c = search needs
 
-part-fits-start : tie.Need-part-fits-start
-part-fits-start c = search needs
+part-clear-past-start : tie.Need-part-clear-past-start
+part-clear-past-start c = search needs
 
-part-fits-end : tie.Need-part-fits-end
-part-fits-end c = search needs
+part-clear-past-end : tie.Need-part-clear-past-end
+part-clear-past-end c = search needs
 
-fits-requires : tie.Need-fits-requires
-fits-requires c κs = search needs
+clear-past-requires : tie.Need-clear-past-requires
+clear-past-requires c κs = search needs
 
 returns-7 : tie.Need-returns-7
 unfolding judged
 returns-7 c =
     let a = c .before .before .before .before .before .before .before .before .before .before .args in
-    let e = same-part (a .block .now) (a .at) (a .count) (sym (c .before .fits2 .ensures) ∙ c .if7 .taken) in
+    let e = same-part (a .block .now) (a .at) (a .count) (sym (c .before .clear-past .ensures) ∙ c .if7 .taken) in
     sym (yes _ _ (eq-eqb _ _ (c .before .before .before .before .before .before .before .before .if1 .left)) ∙ no _ _ (ne-eqb _ _ (c .before .before .before .before .before .before .before .if2 .left)) ∙ no _ _ (le-ltb _ _ (c .before .before .before .before .before .before .if3 .left)) ∙ no _ _ (ne-eqb _ _ (c .before .before .before .before .before .if4 .left)) ∙ no _ _ (le-ltb _ _ (c .before .before .before .before .if5 .left)) ∙ no _ _ (le-ltb _ _ (c .before .before .before .if6 .left)) ∙ yes _ _ e)
 
 returns-8 : tie.Need-returns-8
 unfolding judged
 returns-8 c =
     let a = c .before .before .before .before .before .before .before .before .before .before .args in
-    let e = same-part (a .block .now) (a .at) (a .count) (sym (c .before .fits2 .ensures) ∙ c .if7 .left) in
+    let e = same-part (a .block .now) (a .at) (a .count) (sym (c .before .clear-past .ensures) ∙ c .if7 .left) in
     sym (yes _ _ (eq-eqb _ _ (c .before .before .before .before .before .before .before .before .if1 .left)) ∙ no _ _ (ne-eqb _ _ (c .before .before .before .before .before .before .before .if2 .left)) ∙ no _ _ (le-ltb _ _ (c .before .before .before .before .before .before .if3 .left)) ∙ no _ _ (ne-eqb _ _ (c .before .before .before .before .before .if4 .left)) ∙ no _ _ (le-ltb _ _ (c .before .before .before .before .if5 .left)) ∙ no _ _ (le-ltb _ _ (c .before .before .before .if6 .left)) ∙ no _ _ e)
 
 pub judge-spec : {M : Type 1} → statement M
@@ -96,9 +96,9 @@ judge-spec =
     sub-if6
     returns-6
     add-next
-    sub-fits
-    part-fits-start
-    part-fits-end
-    fits-requires
+    sub-clear-past
+    part-clear-past-start
+    part-clear-past-end
+    clear-past-requires
     returns-7
     returns-8)

@@ -2,8 +2,8 @@ use Prim.Native.Nat.{ℕ, _+_}
 use mathlib.Core.Path.{ap}
 use lib.ListN.{set}
 use borrow.Author.Needs.{needs}
-use Rattle.bits.proofs.add_byte.Statement.{statement}
-use Rattle.bits.proofs.add_byte.Tie as tie
+use Rattle.packing.proofs.add_byte.Statement.{statement}
+use Rattle.packing.proofs.add_byte.Tie as tie
 
 slice-read-wide : tie.Need-slice-read-wide
 slice-read-wide c = search needs

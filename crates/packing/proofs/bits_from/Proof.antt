@@ -1,9 +1,9 @@
--- `bits::bits_from` meets its contract: five bytes hold every window of at most 32 bits.
+-- `packing::bits_from` meets its contract: five bytes hold every window of at most 32 bits.
 use mathlib.Core.Path.{_∙_}
-use Rattle.bits.proofs.Values.{window-bytes}
+use Rattle.packing.proofs.Five.{window-bytes}
 use borrow.Author.Needs.{needs}
-use Rattle.bits.proofs.bits_from.Statement.{statement}
-use Rattle.bits.proofs.bits_from.Tie as tie
+use Rattle.packing.proofs.bits_from.Statement.{statement}
+use Rattle.packing.proofs.bits_from.Tie as tie
 
 five-from-requires : tie.Need-five-from-requires
 five-from-requires c κs = search needs

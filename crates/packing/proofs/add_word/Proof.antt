@@ -1,13 +1,13 @@
-use Prim.Native.Nat.{ℕ, _+_, _-_, _*_, _^_}
+use Prim.Native.Nat.{ℕ, _+_, _*_, _^_}
 use mathlib.Core.Path.{_≡_, sym, subst}
 use mathlib.Core.List.{List}
 use native.Mathlib.Omega.{arith}
 use lib.ListN.{length}
 use Rattle.bits.specs.Bits.{num}
-use Rattle.bits.proofs.Laws.{word-one, word-two, second-room}
+use Rattle.packing.proofs.Appending.{word-one, word-two, second-room}
 use borrow.Author.Needs.{needs}
-use Rattle.bits.proofs.add_word.Statement.{statement}
-use Rattle.bits.proofs.add_word.Tie as tie
+use Rattle.packing.proofs.add_word.Statement.{statement}
+use Rattle.packing.proofs.add_word.Tie as tie
 
 add-byte-requires : tie.Need-add-byte-requires
 add-byte-requires c κs = search needs

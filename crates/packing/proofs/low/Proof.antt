@@ -1,11 +1,11 @@
--- `bits::low` meets its contract: 1 << m is 2 ^ m.
+-- `packing::low` meets its contract: 1 << m is 2 ^ m.
 use mathlib.Core.Path.{ap}
 use Prim.Native.Nat.{ℕ, _%_}
 use lib.Pow.{pow-pos}
 use Rattle.integers.proofs.Modulo.{one-shifted}
 use borrow.Author.Needs.{needs}
-use Rattle.bits.proofs.low.Statement.{statement}
-use Rattle.bits.proofs.low.Tie as tie
+use Rattle.packing.proofs.low.Statement.{statement}
+use Rattle.packing.proofs.low.Tie as tie
 
 shl-result : tie.Need-shl-result
 shl-result c = search needs

@@ -1,12 +1,12 @@
--- `bits::fits` meets its contract: the whole bytes below the count do not decide, and past it every byte must be 0.
+-- `bits::clear_past` meets its contract: the whole bytes below the count do not decide, and past it every byte must be 0.
 use Prim.Native.Nat.{ℕ, _-_, _/_, _^_, _<_}
 use mathlib.Core.Path.{sym, ap, _∙_}
 use native.Mathlib.Omega.{arith}
 use lib.ListN.{length}
 use Rattle.bits.proofs.Laws.{Left, left-start, left-small, left-no, left-all, fits-short}
 use borrow.Author.Needs.{needs}
-use Rattle.bits.proofs.fits.Statement.{statement}
-use Rattle.bits.proofs.fits.Tie as tie
+use Rattle.bits.proofs.clear_past.Statement.{statement}
+use Rattle.bits.proofs.clear_past.Tie as tie
 
 abbrev Inv-loop : tie.InvT-loop
 Inv-loop bytes count from left₀ i₀ left i = Left bytes count left i × (left < 8)
@@ -48,8 +48,8 @@ loop-again c =
 returns-3 : tie.Need-returns-3 Inv-loop μ-loop
 returns-3 c = left-all _ _ (c .before .loop .left) (c .before .loop .i) (c .before .loop .inv .0) (c .loop-test .left)
 
-pub fits-spec : {M : Type 1} → statement M
-fits-spec =
+pub clear-past-spec : {M : Type 1} → statement M
+clear-past-spec =
     tie.close
     (tie.spec
     Inv-loop

@@ -3,11 +3,11 @@ use mathlib.Core.Path.{refl, sym, ap, _∙_, subst}
 use native.Mathlib.Omega.{arith}
 use borrow.Author.Needs.{needs}
 use lib.ListN.{length}
 use Rattle.bits.specs.Bits.{num, Below}
-use Rattle.bits.specs.Inner.{WordFits}
-use Rattle.bits.proofs.Laws.{Added, word-fits, added-more, added-all, none-yet, shifted}
-use Rattle.bits.proofs.add_bits.Statement.{statement}
-use Rattle.bits.proofs.add_bits.Tie as tie
+use Rattle.packing.specs.Inner.{WordFits}
+use Rattle.packing.proofs.Appending.{Added, word-fits, added-more, added-all, none-yet, shifted}
+use Rattle.packing.proofs.add_bits.Statement.{statement}
+use Rattle.packing.proofs.add_bits.Tie as tie
 
 abbrev Inv-loop : tie.InvT-loop
 Inv-loop bytes₀ have more shift from j₀ bytes j = Added bytes₀ have more bytes j

@@ -1,0 +1,3 @@
+-- The laws on windows and on appending.
+pub mod Five
+pub mod Appending
