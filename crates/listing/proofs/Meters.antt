@@ -16,10 +16,10 @@ use Rattle.by_meter.specs.declared.ByMeter.{ByMeter}
 use Rattle.by_meter.specs.declared.ByMeter.the-variants as Answers
 use Rattle.io.specs.Counts.{Counts}
 use Rattle.text.specs.Text.{Wrote, decimalOf}
-use Rattle.text.proofs.Writing.{wrote-then}
-use Rattle.listing.proofs.Rooms.{counted}
+use Rattle.text.proofs.Writing.{wrote-then, wrote-counts}
+use Rattle.phrases.specs.Phrases.{Piece, spaced}
 use Rattle.listing.specs.Lines.{lineEnd, noneWord, HasBits, Lines, silent, fraction, none, Writes}
-use Rattle.listing.specs.Pieces.{Piece, spaced, Rest, rest}
+use Rattle.listing.specs.Pieces.{Rest, rest}
 
 abbrev learns : List ℕ → ℕ → ByMeter → Type 0
 learns s m a = LearnsMeter s m (meterNumber a) (meterP a) (meterQ a)
@@ -52,7 +52,7 @@ unknown-not (M.unknown e (inr l)) b = omega (arith, b .asked .high)
 -- ---- the lines
 
 pub both : {P : List ℕ → Type 0} {old new : List ℕ} {r : ℕ} → Writes P old 0 new r → length new ≡ length old → Writes P old 0 new r × Counts r new
-both w e = (w, counted (w .wrote) e)
+both w e = (w, wrote-counts (w .wrote) e)
 
 silence : {s : List ℕ} {m : ℕ} (old : List ℕ) → (HasBits s m → ⊥) → Writes (Lines s m) old 0 old 0
 silence old n = record { text = []; is = silent n; wrote = record { new-is = refl; r-is = refl } }

@@ -23,7 +23,8 @@ use Rattle.by_meter.proofs.Answers.{meter-unique}
 use Rattle.text.specs.Text.{Wrote, decimalOf, signedOf}
 use Rattle.text.proofs.Digits.{Above, decimal-above, signed-above, decimal-unique, signed-unique, field-unique}
 use Rattle.text.proofs.Writing.{wrote-unique}
-use Rattle.listing.specs.Lines.{row, space, LastTwo, walked, past, Lines, silent, fraction, none, Writes}
+use Rattle.phrases.specs.Phrases.{space}
+use Rattle.listing.specs.Lines.{row, LastTwo, walked, past, Lines, silent, fraction, none, Writes}
 
 pub last-unique : {g : Register} {a b a' b' : List ℕ} → LastTwo g a b → LastTwo g a' b' → (a ≡ a') × (b ≡ b')
 last-unique (walked (W.walked v l e k)) (walked (W.walked v' l' e' k')) = let u = loops-unique l l' in (ap decimalOf (u .0), ap decimalOf (u .1))

@@ -1,7 +1,6 @@
 -- The listing, in the words of the document's "Listing program".
 --
 --   headerText              "meter bits p q cells memory lead period", and a line end
---   refusedText n p         "A refused block prints only "refused N at P"."
 --   row first rest          "Fields, one space between", and a line end
 --   HasBits s meter         the store keeps the rules, and the meter is 1 to 32 and has bits: "prints, by rising meter number, each meter with bits"
 --   LastTwo g lead period   lead-in and period: "The walk's allowance is 65,536; past it the last two are "-"."
@@ -20,29 +19,18 @@ use Rattle.walking.specs.Walks.{Walks}
 use Rattle.places.specs.Places.{burst, HasPlace}
 use Rattle.by_meter.specs.ByMeter.{LearnsMeter}
 use Rattle.text.specs.Text.{Wrote, decimalOf, signedOf}
+use Rattle.phrases.specs.Phrases.{space}
 
--- the ASCII codes of a space and of a line end
-abbrev pub space : ℕ
-space = 32
-
+-- the ASCII code of a line end
 abbrev pub lineEnd : ℕ
 lineEnd = 10
 
--- "-", "none", "refused " and " at "
+-- "-" and "none"
 abbrev pub dash : List ℕ
 dash = 45 ∷ []
 
 abbrev pub noneWord : List ℕ
 noneWord = 110 ∷ 111 ∷ 110 ∷ 101 ∷ []
-
-abbrev pub refusedWord : List ℕ
-refusedWord = 114 ∷ 101 ∷ 102 ∷ 117 ∷ 115 ∷ 101 ∷ 100 ∷ space ∷ []
-
-abbrev pub atWord : List ℕ
-atWord = space ∷ 97 ∷ 116 ∷ space ∷ []
-
-abbrev pub refusedText : ℕ → ℕ → List ℕ
-refusedText n p = refusedWord ++ (decimalOf n ++ (atWord ++ (decimalOf p ++ (lineEnd ∷ []))))
 
 abbrev pub row : List ℕ → List (List ℕ) → List ℕ
 row first [] = first ++ (lineEnd ∷ [])

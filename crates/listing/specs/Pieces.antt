@@ -1,26 +1,17 @@
 -- Words of private functions; no public contract cites them. A line is written piece by piece.
 --
---   spaced field      a field and the space behind it
---   Piece old at text most new r   the text was written, and has at most `most` bytes
 --   registered p q m  the four fields from p to the memory, each with its space
 --   Way g text        the last two fields and the line end
 --   Rest p q text     what follows the count in the line of a meter with a fraction
 use mathlib.Core.List.{List, [], _∷_, _++_}
-use Prim.Native.Nat.{ℕ, _≤_}
+use Prim.Native.Nat.{ℕ}
 use lib.IntN.{ℤ}
-use lib.ListN.{length}
 use Rattle.registers.specs.Registers.{cellCount}
 use Rattle.registers.specs.Answers.{Loads}
 use Rattle.registers.specs.declared.Register.{Register}
-use Rattle.text.specs.Text.{Wrote, decimalOf, signedOf}
-use Rattle.listing.specs.Lines.{space, row, LastTwo}
-
-abbrev pub spaced : List ℕ → List ℕ
-spaced field = field ++ (space ∷ [])
-
-pub record Piece (old : List ℕ) (at : ℕ) (text : List ℕ) (most : ℕ) (new : List ℕ) (r : ℕ) : Type 0 where
-  pub wrote : Wrote old at text new r
-  pub short : length text ≤ most
+use Rattle.text.specs.Text.{decimalOf, signedOf}
+use Rattle.phrases.specs.Phrases.{spaced}
+use Rattle.listing.specs.Lines.{row, LastTwo}
 
 abbrev pub registered : ℤ → ℕ → ℤ → List ℕ
 registered p q m = spaced (signedOf p) ++ (spaced (decimalOf q) ++ (spaced (decimalOf (cellCount q)) ++ spaced (signedOf m)))

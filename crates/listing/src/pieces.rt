@@ -4,31 +4,13 @@ ghost use Prim.Native.Nat.{_+_, _≤_};
 ghost use lib.ListN.{length};
 ghost use Rattle.fractions.specs.Pairs.{Inside};
 ghost use Rattle.registers.specs.Registers.{Valid, cellCount};
-ghost use Rattle.text.specs.Text.{decimalOf, signedOf};
+ghost use Rattle.phrases.specs.Phrases.{Piece};
 ghost use Rattle.listing.specs.Lines.{Writes};
-ghost use Rattle.listing.specs.Pieces.{Piece, spaced, registered, Way, Rest};
+ghost use Rattle.listing.specs.Pieces.{registered, Way, Rest};
 use registers::Register;
 
 // The steps that a walk may take.
 const ALLOWANCE: u32 = 65536;
-
-// A number, and the space behind it.
-pub fn field(out: &mut [u8], at: usize, n: u32) -> usize
-    requires { ⌜ at + 11 ≤ length (now out) ⌝ }
-    ensures { λ r. ⌜ Piece (now (out .entry)) at (spaced (decimalOf n)) 11 (now (out .exit)) r ⌝ }
-{
-    let next = text::number(out, at, n as u64);
-    text::word(out, next, b" ")
-}
-
-// The same for a number of either sign.
-fn signed_field(out: &mut [u8], at: usize, z: i32) -> usize
-    requires { ⌜ at + 12 ≤ length (now out) ⌝ }
-    ensures { λ r. ⌜ Piece (now (out .entry)) at (spaced (signedOf z)) 12 (now (out .exit)) r ⌝ }
-{
-    let next = text::signed(out, at, z);
-    text::word(out, next, b" ")
-}
 
 // The number of cells of a valid register.
 fn cells(g: Register) -> u32
@@ -46,10 +28,10 @@ fn registered(out: &mut [u8], at: usize, p: i32, g: Register) -> usize
     requires { ⌜ (at + 46 ≤ length (now out)) × Valid g ⌝ }
     ensures { λ r. ⌜ Piece (now (out .entry)) at (registered p (g .q) (g .memory)) 46 (now (out .exit)) r ⌝ }
 {
-    let second = signed_field(out, at, p);
-    let third = field(out, second, g.q);
-    let fourth = field(out, third, cells(g));
-    signed_field(out, fourth, g.memory)
+    let second = phrases::signed_field(out, at, p);
+    let third = phrases::field(out, second, g.q);
+    let fourth = phrases::field(out, third, cells(g));
+    phrases::signed_field(out, fourth, g.memory)
 }
 
 // Lead-in, period and the line end; "-" for both where the walk is past its allowance.
@@ -59,7 +41,7 @@ fn way(out: &mut [u8], at: usize, g: Register) -> usize
 {
     match walking::walk(g, ALLOWANCE) {
         walking::Walked::Loop(lead, period, _) => {
-            let second = field(out, at, lead);
+            let second = phrases::field(out, at, lead);
             let end = text::number(out, second, period as u64);
             text::word(out, end, b"\n")
         }

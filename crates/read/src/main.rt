@@ -74,7 +74,7 @@ fn is_broken(fd: i32, name: &[u8]) -> bool {
 }
 
 fn print<'a>(first: &'a [u8], second: &'a [u8], meter: u32, ordinal: u32) {
-    let mut line = [0u8; 150];
+    let mut line = [0u8; reading::LINE];
     let n = reading::line(&mut line, first, second, meter, ordinal);
     io::write_all(STDOUT_FILENO, &line[..n]);
     io::write_all(STDOUT_FILENO, b"\n");

@@ -11,6 +11,7 @@ use mathlib.Core.List.{List, [], _∷_, _++_}
 use lib.Dec.{ltb}
 use Rattle.io.specs.Counts.{Counts}
 use Rattle.text.specs.Text.{decimalOf, Wrote}
+use Rattle.phrases.specs.Phrases.{spaced, refusedText, placedText}
 use Rattle.records.specs.Block.{numberOf, placeOf}
 use Rattle.antennas.specs.declared.About.{About}
 use Rattle.antennas.specs.declared.About.the-variants as A
@@ -27,30 +28,14 @@ unfoldable pub hexOf : List ℕ → List ℕ
 hexOf [] = []
 hexOf (b ∷ bs) = hexByte b ++ hexOf bs
 
--- "one space between"; the words "refused " and " at "
-abbrev pub space : List ℕ
-space = 32 ∷ []
-
-abbrev pub refusedWord : List ℕ
-refusedWord = 114 ∷ 101 ∷ 102 ∷ 117 ∷ 115 ∷ 101 ∷ 100 ∷ 32 ∷ []
-
-abbrev pub atWord : List ℕ
-atWord = 32 ∷ 97 ∷ 116 ∷ 32 ∷ []
-
 abbrev pub foundLine : ℕ → ℕ → List ℕ → List ℕ
-foundLine antenna count part = ((decimalOf antenna ++ space) ++ (decimalOf count ++ space)) ++ hexOf part
-
-abbrev pub refusedLine : ℕ → List ℕ
-refusedLine number = refusedWord ++ decimalOf number
-
-abbrev pub placedLine : ℕ → ℕ → List ℕ
-placedLine number place = (refusedLine number ++ atWord) ++ decimalOf place
+foundLine antenna count part = (spaced (decimalOf antenna) ++ spaced (decimalOf count)) ++ hexOf part
 
 abbrev pub lineOf : About → List ℕ → List ℕ
 lineOf (A.Found x) part = foundLine (x .antenna) (x .count) part
-lineOf (A.Malformed x) part = placedLine (numberOf x) (placeOf x)
-lineOf A.BadMeter part = refusedLine 14
-lineOf A.NoRecord part = refusedLine 18
+lineOf (A.Malformed x) part = placedText (numberOf x) (placeOf x)
+lineOf A.BadMeter part = refusedText 14
+lineOf A.NoRecord part = refusedText 18
 
 -- two numbers of at most ten digits, each with its space, and two digits for each of 64 bytes
 abbrev pub lineSize : ℕ

@@ -6,6 +6,7 @@ use native.Mathlib.Omega.{arith}
 use native.Mathlib.Nat.{add-assoc}
 use lib.ListN.{length, take, drop, length-append, length-drop, drop-of-length-le}
 use lib.Seq.{length-take-le, take-at, drop-at, drop-drop, take-length, take-all}
+use Rattle.io.specs.Counts.{Counts}
 use Rattle.text.specs.Text.{written, Wrote}
 
 pub length-written : (old : List ℕ) (at : ℕ) (text : List ℕ) → at + length text ≤ length old → length (written old at text) ≡ length old
@@ -51,7 +52,8 @@ copied old at text new h e =
 pub wrote-unique : {old : List ℕ} {at : ℕ} {text new new' : List ℕ} {r r' : ℕ} → Wrote old at text new r → Wrote old at text new' r' → (new ≡ new') × (r ≡ r')
 wrote-unique w v = (w .new-is ∙ sym (v .new-is), w .r-is ∙ sym (v .r-is))
 
--- what was written ends inside bytes that are as many as they were
-pub wrote-within : {old : List ℕ} {at : ℕ} {text new : List ℕ} {r : ℕ} → Wrote old at text new r → at ≤ length old → length new ≡ length old → r ≤ length new
-wrote-within {old} {at} {text} w h e =
-    omega (arith, w .r-is, simp (length-append, length-drop, length-take-le at old h) at (ap length (w .new-is)))
+-- what was written from the start on ends inside bytes that are as many as they were, so it is a part of them
+pub wrote-counts : {old text new : List ℕ} {r : ℕ} → Wrote old 0 text new r → length new ≡ length old → Counts r new
+wrote-counts {old} {text} {new} {r} w e =
+    let h : r ≤ length new = omega (arith, w .r-is, simp (length-append, length-drop) at (ap length (w .new-is))) in
+    (h, sym (length-take-le r new h))

@@ -1,5 +1,5 @@
 -- `listing::header` meets its contract: one word, as the document writes it.
-use Rattle.listing.proofs.Rooms.{counted}
+use Rattle.text.proofs.Writing.{wrote-counts}
 use borrow.Author.Needs.{needs}
 use Rattle.listing.proofs.header.Statement.{statement}
 use Rattle.listing.proofs.header.Tie as tie
@@ -11,7 +11,7 @@ word-requires : tie.Need-word-requires
 word-requires c κs = search needs
 
 returns : tie.Need-returns
-returns c = (c .word .ensures, counted (c .word .ensures) (search needs))
+returns c = (c .word .ensures, wrote-counts (c .word .ensures) (search needs))
 
 pub header-spec : {M : Type 1} → statement M
 header-spec = tie.close (tie.spec slice-aggregate-word word-requires returns)

@@ -1,11 +1,10 @@
 -- `reading::line` meets its contract: one line for each case of the twin's answer, with the numbers of that case.
-use Prim.Native.Nat.{ℕ, _≤_}
-use mathlib.Core.Path.{sym, ap, _∙_, subst}
-use Rattle.records.specs.Block.{blockBytes}
+use mathlib.Core.Path.{sym, ap, _∙_}
 use Rattle.antennas.specs.declared.About.{About}
 use Rattle.antennas.specs.Antennas.{readNumber}
-use Rattle.reading.specs.Line.{refusedLine, placedLine, lineOf}
-use Rattle.reading.proofs.Answers.{found-fits, place-low, prints}
+use Rattle.phrases.specs.Phrases.{refusedText, placedText}
+use Rattle.reading.specs.Line.{lineOf}
+use Rattle.reading.proofs.Answers.{found-fits, prints}
 use borrow.Author.Needs.{needs}
 use Rattle.reading.proofs.line.Statement.{statement}
 use Rattle.reading.proofs.line.Tie as tie
@@ -21,8 +20,9 @@ enum-known-about c = search needs
 
 found-requires : tie.Need-found-requires
 found-requires c κs =
-    let f = found-fits (c .before .before .before .before .before .read-about .ensures) (c .before .before .before .before .read-part .ensures) (c .before .before .about .given .1) in
-    (f .0, f .1, c .before .before .before .before .before .before .before .before .before .pre)
+    let p = c .before .before .before .before in
+    let f = found-fits (p .before .read-about .ensures) (p .read-part .ensures) (c .before .before .about .given .1) in
+    (f .0, f .1, search needs)
 
 enum-known-about-2 : tie.Need-enum-known-about-2
 enum-known-about-2 c = search needs
@@ -34,8 +34,7 @@ place-requires : tie.Need-place-requires
 place-requires c κs = search needs
 
 placed-requires : tie.Need-placed-requires
-placed-requires c κs =
-    (subst (λ (n : ℕ). n ≤ blockBytes) (sym (c .place .ensures)) (place-low (c .before .before .before .before .before .before .before .read-about .ensures) (c .before .before .before .before .about2 .given .1)), c .before .before .before .before .before .before .before .before .before .before .before .pre)
+placed-requires c κs = search needs
 
 enum-told : tie.Need-enum-told
 enum-told c = search needs
@@ -55,45 +54,35 @@ number-requires-3 c κs = search needs
 refused-requires-2 : tie.Need-refused-requires-2
 refused-requires-2 c κs = search needs
 
-same-length : tie.Need-same-length
-same-length c = search needs
-
 returns : tie.Need-returns
 returns c =
-    let r = c .before .before .before .before .before .before .before .before .read-about in
-    let p = c .before .before .before .before .before .before .before .read-part in
-    let q = c .before .before .before .before .before .about .given .1 in
-    prints _ _ _ _ (r .ensures) (p .ensures) (c .before .before .before .before .before .before .before .before .before .before .before .before .pre) (ap (λ (x : About). lineOf x (p .result .now)) (sym q)) (c .before .before .found .ensures)
-
-same-length-2 : tie.Need-same-length-2
-same-length-2 c = search needs
+    let x = c .before .before .before in
+    let p = x .before .before in
+    prints _ _ _ _ (p .before .read-about .ensures) (p .read-part .ensures) (search needs) (ap (λ (a : About). lineOf a (p .read-part .result .now)) (sym (x .about .given .1))) (c .found .ensures)
 
 returns-2 : tie.Need-returns-2
 returns-2 c =
-    let r = c .before .before .before .before .before .before .before .before .before .before .read-about in
-    let p = c .before .before .before .before .before .before .before .before .before .read-part in
-    let q = c .before .before .before .before .before .before .before .about2 .given .1 in
-    prints _ _ _ _ (r .ensures) (p .ensures) (c .before .before .before .before .before .before .before .before .before .before .before .before .before .before .pre) ((λ i. placedLine (c .before .before .before .before .number .ensures i) (c .before .before .before .place .ensures i)) ∙ ap (λ (x : About). lineOf x (p .result .now)) (sym q)) (c .before .before .placed .ensures)
-
-same-length-3 : tie.Need-same-length-3
-same-length-3 c = search needs
+    let y = c .before .before .before .before .before in
+    let p = y .before .before in
+    prints _ _ _ _ (p .before .read-about .ensures) (p .read-part .ensures) (search needs)
+    ((λ i. placedText (c .before .before .number .ensures i) (c .before .place .ensures i)) ∙ ap (λ (a : About). lineOf a (p .read-part .result .now)) (sym (y .about2 .given .1)))
+    (c .placed .ensures .wrote)
 
 returns-3 : tie.Need-returns-3
 returns-3 c =
-    let r = c .before .before .before .before .before .before .before .before .read-about in
-    let p = c .before .before .before .before .before .before .before .read-part in
-    let q = c .before .before .before .before .before .enum-told .given .1 in
-    prints _ _ _ _ (r .ensures) (p .ensures) (c .before .before .before .before .before .before .before .before .before .before .before .before .pre) (ap refusedLine (c .before .before .before .number2 .ensures ∙ ap readNumber q) ∙ ap (λ (x : About). lineOf x (p .result .now)) (sym q)) (c .before .before .refused .ensures)
-
-same-length-4 : tie.Need-same-length-4
-same-length-4 c = search needs
+    let e = c .before .before .before in
+    let p = e .before .before in
+    prints _ _ _ _ (p .before .read-about .ensures) (p .read-part .ensures) (search needs)
+    (ap refusedText (c .before .number2 .ensures ∙ ap readNumber (e .enum-told .given .1)) ∙ ap (λ (a : About). lineOf a (p .read-part .result .now)) (sym (e .enum-told .given .1)))
+    (c .refused .ensures .wrote)
 
 returns-4 : tie.Need-returns-4
 returns-4 c =
-    let r = c .before .before .before .before .before .before .before .before .read-about in
-    let p = c .before .before .before .before .before .before .before .read-part in
-    let q = c .before .before .before .before .before .enum-told2 .given .1 in
-    prints _ _ _ _ (r .ensures) (p .ensures) (c .before .before .before .before .before .before .before .before .before .before .before .before .pre) (ap refusedLine (c .before .before .before .number3 .ensures ∙ ap readNumber q) ∙ ap (λ (x : About). lineOf x (p .result .now)) (sym q)) (c .before .before .refused2 .ensures)
+    let e = c .before .before .before in
+    let p = e .before .before in
+    prints _ _ _ _ (p .before .read-about .ensures) (p .read-part .ensures) (search needs)
+    (ap refusedText (c .before .number3 .ensures ∙ ap readNumber (e .enum-told2 .given .1)) ∙ ap (λ (a : About). lineOf a (p .read-part .result .now)) (sym (e .enum-told2 .given .1)))
+    (c .refused2 .ensures .wrote)
 
 pub line-spec : {M : Type 1} → statement M
 line-spec =
@@ -113,11 +102,7 @@ line-spec =
     enum-told-2
     number-requires-3
     refused-requires-2
-    same-length
     returns
-    same-length-2
     returns-2
-    same-length-3
     returns-3
-    same-length-4
     returns-4)

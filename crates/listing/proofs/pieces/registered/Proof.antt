@@ -1,7 +1,7 @@
 -- `listing::pieces::registered` meets its contract: four fields, one behind another.
 use mir.Syntax.{w32}
 use mir.ValLaws.{toZ-ofZ}
-use Rattle.listing.proofs.Rooms.{piece-then}
+use Rattle.phrases.proofs.Pieces.{piece-then}
 use borrow.Author.Needs.{needs}
 use Rattle.listing.proofs.pieces.registered.Statement.{statement}
 use Rattle.listing.proofs.pieces.registered.Tie as tie

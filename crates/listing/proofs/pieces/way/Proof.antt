@@ -1,8 +1,9 @@
 -- `listing::pieces::way` meets its contract: the two fields that the walk's answer asks for.
 use native.Mathlib.Omega.{arith}
 use Rattle.listing.specs.Pieces.{way}
-use Rattle.listing.proofs.Rooms.{decimal-short, decimal-piece, room-after, two-numbers}
+use Rattle.phrases.proofs.Pieces.{decimal-short, decimal-piece, room-after}
 use Rattle.listing.proofs.Refusals.{walk-loop, walk-past, walk-not}
+use Rattle.listing.proofs.Rows.{two-numbers}
 use borrow.Author.Needs.{needs}
 use Rattle.listing.proofs.pieces.way.Statement.{statement}
 use Rattle.listing.proofs.pieces.way.Tie as tie

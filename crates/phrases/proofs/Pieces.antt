@@ -1,19 +1,15 @@
 -- A line written piece by piece: where the next piece begins, and that there is room for it.
-use mathlib.Core.Path.{_≡_, sym, subst}
-use mathlib.Core.List.{List, [], _∷_, _++_, append-assoc}
+use mathlib.Core.List.{List, _++_}
 use Prim.Native.Nat.{ℕ, _+_, _^_, _≤_, _<_}
 use native.Mathlib.Omega.{arith}
 use lib.IntN.{ℤ, pos, negsuc, natAbs}
 use lib.ListN.{length, length-append}
 use mir.Syntax.{w32}
 use mir.Val.{SFits}
-use lib.Seq.{length-take-le}
-use Rattle.io.specs.Counts.{Counts}
 use Rattle.text.specs.Text.{Wrote, decimalOf, signedOf}
 use Rattle.text.proofs.Digits.{length-decimal, length-signed}
-use Rattle.text.proofs.Writing.{wrote-then, wrote-length, wrote-within}
-use Rattle.listing.specs.Lines.{space, lineEnd, row}
-use Rattle.listing.specs.Pieces.{Piece, spaced}
+use Rattle.text.proofs.Writing.{wrote-then, wrote-length}
+use Rattle.phrases.specs.Phrases.{Piece}
 
 module _ {old : List ℕ} {at : ℕ} {s mid : List ℕ} {m r : ℕ} (w : Piece old at s m mid r) where
   -- what was free behind the most that a piece can take is free behind it
@@ -24,10 +20,6 @@ module _ {old : List ℕ} {at : ℕ} {s mid : List ℕ} {m r : ℕ} (w : Piece o
   piece-then {t} h v =
       let e = w .short in
       record { wrote = wrote-then (w .wrote) (omega arith) (v .wrote); short = rw length-append (omega (arith, v .short)) }
-
--- what was written from the start on is a part of the bytes
-pub counted : {old t new : List ℕ} {r : ℕ} → Wrote old 0 t new r → length new ≡ length old → Counts r new
-counted {new = new} {r = r} w e = let h = wrote-within w (omega arith) e in (h, sym (length-take-le r new h))
 
 pub decimal-short : (n : ℕ) → n < 2 ^ 32 → length (decimalOf n) ≤ 10
 decimal-short n h = length-decimal 9 n (omega arith)
@@ -48,18 +40,8 @@ decimal-piece {n = n} h w = record { wrote = w; short = decimal-short n h }
 pub place-piece : {old : List ℕ} {at n : ℕ} {new : List ℕ} {r : ℕ} → n < 2 ^ 64 → Wrote old at (decimalOf n) new r → Piece old at (decimalOf n) 20 new r
 place-piece {n = n} h w = record { wrote = w; short = decimal-long n h }
 
-pub word-piece : {old : List ℕ} {at : ℕ} {t : List ℕ} {new : List ℕ} {r : ℕ} → Wrote old at t new r → Piece old at t (length t) new r
-word-piece w = record { wrote = w; short = omega arith }
-
 pub signed-piece : {old : List ℕ} {at : ℕ} {z : ℤ} {new : List ℕ} {r : ℕ} → SFits w32 z → Wrote old at (signedOf z) new r → Piece old at (signedOf z) 11 new r
 signed-piece {z = z} f w = record { wrote = w; short = signed-short z f }
 
-pub one-byte : {old : List ℕ} {at x : ℕ} {new : List ℕ} {r : ℕ} → Wrote old at (x ∷ []) new r → Piece old at (x ∷ []) 1 new r
-one-byte w = record { wrote = w; short = omega arith }
-
--- two numbers with a space between, and a line end
-pub two-numbers : {old : List ℕ} {at : ℕ} (l t : ℕ) {mid low new : List ℕ} {r e r' : ℕ} → t < 2 ^ 32 → at + 22 ≤ length old
-    → Piece old at (spaced (decimalOf l)) 11 mid r → Wrote mid r (decimalOf t) low e → Wrote low e (lineEnd ∷ []) new r' → Wrote old at (row (decimalOf l) (decimalOf t ∷ [])) new r'
-two-numbers {old} {at} l t {new = new} {r' = r'} small room p w v =
-    subst (λ (x : List ℕ). Wrote old at x new r') (append-assoc (decimalOf l) (space ∷ []) (decimalOf t ++ (lineEnd ∷ [])))
-    (piece-then p (omega arith) (piece-then (decimal-piece small w) (room-after p 10 (omega arith)) (one-byte v)) .wrote)
+pub word-piece : {old : List ℕ} {at : ℕ} {t : List ℕ} {new : List ℕ} {r : ℕ} → Wrote old at t new r → Piece old at t (length t) new r
+word-piece w = record { wrote = w; short = omega arith }

@@ -1,9 +1,9 @@
--- `listing::pieces::field` meets its contract: a number of 32 bits has at most ten digits.
+-- `phrases::field` meets its contract: a number of 32 bits has at most ten digits.
 use native.Mathlib.Omega.{arith}
-use Rattle.listing.proofs.Rooms.{decimal-short, decimal-piece, piece-then, one-byte, room-after}
+use Rattle.phrases.proofs.Pieces.{decimal-short, decimal-piece, piece-then, word-piece, room-after}
 use borrow.Author.Needs.{needs}
-use Rattle.listing.proofs.pieces.field.Statement.{statement}
-use Rattle.listing.proofs.pieces.field.Tie as tie
+use Rattle.phrases.proofs.field.Statement.{statement}
+use Rattle.phrases.proofs.field.Tie as tie
 
 number-requires : tie.Need-number-requires
 number-requires c κs = omega (arith, decimal-short (c .before .before .args .n) (search needs))
@@ -22,7 +22,7 @@ same-length c = search needs
 returns : tie.Need-returns
 returns c =
     let n = c .before .before .before .before .before .before .before in
-    piece-then (decimal-piece (search needs) (n .number .ensures)) (search needs) (one-byte (c .before .before .word .ensures))
+    piece-then (decimal-piece (search needs) (n .number .ensures)) (search needs) (word-piece (c .before .before .word .ensures))
 
 pub field-spec : {M : Type 1} → statement M
 field-spec =

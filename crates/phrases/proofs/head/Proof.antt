@@ -1,8 +1,8 @@
--- `listing::head` meets its contract: two fields, one behind the other.
-use Rattle.listing.proofs.Rooms.{piece-then}
+-- `phrases::head` meets its contract: two fields, one behind the other.
+use Rattle.phrases.proofs.Pieces.{piece-then}
 use borrow.Author.Needs.{needs}
-use Rattle.listing.proofs.head.Statement.{statement}
-use Rattle.listing.proofs.head.Tie as tie
+use Rattle.phrases.proofs.head.Statement.{statement}
+use Rattle.phrases.proofs.head.Tie as tie
 
 field-requires : tie.Need-field-requires
 field-requires c κs = search needs

@@ -1,11 +1,11 @@
--- `listing::pieces::signed_field` meets its contract: a number of 32 bits has at most ten digits and a sign.
+-- `phrases::signed_field` meets its contract: a number of 32 bits has at most ten digits and a sign.
 use native.Mathlib.Omega.{arith}
 use mir.Syntax.{w32}
 use mir.ValLaws.{toZ-ofZ}
-use Rattle.listing.proofs.Rooms.{signed-short, signed-piece, piece-then, one-byte, room-after}
+use Rattle.phrases.proofs.Pieces.{signed-short, signed-piece, piece-then, word-piece, room-after}
 use borrow.Author.Needs.{needs}
-use Rattle.listing.proofs.pieces.signed_field.Statement.{statement}
-use Rattle.listing.proofs.pieces.signed_field.Tie as tie
+use Rattle.phrases.proofs.signed_field.Statement.{statement}
+use Rattle.phrases.proofs.signed_field.Tie as tie
 
 signed-requires : tie.Need-signed-requires
 signed-requires c κs =
@@ -28,7 +28,7 @@ returns : tie.Need-returns
 returns c =
     let n = c .before .before .before .before .before .before .before in
     let a = n .before .before .before in
-    piece-then (signed-piece (a .fits .z) (rw (toZ-ofZ w32 (a .args .z) (a .fits .z)) at (n .signed .ensures))) (search needs) (one-byte (c .before .before .word .ensures))
+    piece-then (signed-piece (a .fits .z) (rw (toZ-ofZ w32 (a .args .z) (a .fits .z)) at (n .signed .ensures))) (search needs) (word-piece (c .before .before .word .ensures))
 
 pub signed-field-spec : {M : Type 1} → statement M
 signed-field-spec =

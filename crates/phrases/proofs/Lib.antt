@@ -1,0 +1,2 @@
+-- Pieces has the laws of a line written piece by piece.
+pub mod Pieces

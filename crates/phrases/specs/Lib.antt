@@ -1,0 +1,2 @@
+-- The root of the specs: Phrases has the texts that both programs print.
+pub mod Phrases
