@@ -3,11 +3,13 @@ use mathlib.Core.Path.{_≡_, refl, sym, _∙_, subst}
 use mathlib.Core.Bool.{true, false}
 use mathlib.Core.Logic.{inl, inr}
 use mathlib.Core.List.{List, [], _∷_, _++_, append-assoc}
-use Prim.Native.Nat.{ℕ, _+_, _≤_}
+use Prim.Native.Nat.{ℕ, zero, suc, _≤_, _<_}
 use native.Mathlib.Omega.{arith}
-use lib.IntN.{ℤ, pos}
+use lib.Dec.{lit≤}
+use lib.IntN.{ℤ, pos, _-ℤ_, _*ℤ_}
 use lib.ListN.{length}
-use Rattle.fractions.specs.Pairs.{Inside}
+use Rattle.integers.proofs.Ring.{lit, #, _⊗_, ring1, _≔_}
+use Rattle.fractions.specs.Pairs.{Inside, NoneFits}
 use Rattle.fractions.specs.declared.Fraction.{Fraction}
 use Rattle.places.specs.Places.{burst, HasPlace}
 use Rattle.by_meter.specs.ByMeter.{LearnsMeter, meterNumber, meterP, meterQ}
@@ -69,6 +71,16 @@ line-unknown {s} {m} old h e = silence old (unknown-not (subst (learns s m) e h)
 bits-of : {s : List ℕ} {m n : ℕ} → HasPlace s m → n ≡ length (burst s m) → (n ≡ 0 → ⊥) → HasBits s m
 bits-of a e z = record { asked = a; some = omega arith }
 
+-- where there are no bits, (0, 1) fits
+none-some : (n A : ℕ) → NoneFits n A → 0 < n
+none-some zero A f =
+    let a = pos A *ℤ pos 1 -ℤ pos 0 in
+    absurd (f (pos 0) 1 (record { odd = refl; some = lit≤ tt; q-most = lit≤ tt; p-most = lit≤ tt }) (a, ring1 (λ x. x ≔ # 1 ⊗ x) tt a))
+none-some (suc n) A f = omega arith
+
+none-bits : {s : List ℕ} {m : ℕ} → LearnsMeter s m 3 (pos 0) 0 → HasBits s m
+none-bits {s} {m} (M.none a f) = record { asked = a; some = none-some (length (burst s m)) _ f }
+
 fraction-text : {s : List ℕ} {m n : ℕ} {p : ℤ} {q : ℕ} {t : List ℕ} → HasBits s m → n ≡ length (burst s m) → LearnsMeter s m 0 p q → Rest p q t
     → Lines s m (spaced (decimalOf m) ++ spaced (decimalOf n) ++ t)
 fraction-text {s} {m} b e h (rest l two) = rw e (subst (Lines s m) (sym (simp append-assoc)) (fraction b h l two))
@@ -77,10 +89,10 @@ none-text : {s : List ℕ} {m n : ℕ} → HasBits s m → n ≡ length (burst s
     → Lines s m (spaced (decimalOf m) ++ spaced (decimalOf n) ++ (noneWord ++ (lineEnd ∷ [])))
 none-text {s} {m} b e h = rw e (subst (Lines s m) (sym (simp append-assoc)) (none b h))
 
-module _ (s : List ℕ) (m n : ℕ) {old mid new : List ℕ} {r r' : ℕ} (e : n ≡ length (burst s m)) (z : n ≡ 0 → ⊥)
+module _ (s : List ℕ) (m n : ℕ) {old mid new : List ℕ} {r r' : ℕ} (e : n ≡ length (burst s m))
     (w : Piece old 0 (spaced (decimalOf m) ++ spaced (decimalOf n)) 22 mid r) (room : 22 ≤ length old) where
-  pub line-fraction : {p : ℤ} {q : ℕ} → LearnsMeter s m 0 p q → Writes (Rest p q) mid r new r' → Writes (Lines s m) old 0 new r'
-  line-fraction h v = record { text = _; is = fraction-text (bits-of (answer-asked h) e z) e h (v .is); wrote = wrote-then (w .wrote) (let k = w .short in omega arith) (v .wrote) }
+  pub line-fraction : {p : ℤ} {q : ℕ} → (n ≡ 0 → ⊥) → LearnsMeter s m 0 p q → Writes (Rest p q) mid r new r' → Writes (Lines s m) old 0 new r'
+  line-fraction z h v = record { text = _; is = fraction-text (bits-of (answer-asked h) e z) e h (v .is); wrote = wrote-then (w .wrote) (let k = w .short in omega arith) (v .wrote) }
 
   pub line-none : LearnsMeter s m 3 (pos 0) 0 → Wrote mid r (noneWord ++ (lineEnd ∷ [])) new r' → Writes (Lines s m) old 0 new r'
-  line-none h v = record { text = _; is = none-text (bits-of (none-asked h) e z) e h; wrote = wrote-then (w .wrote) (let k = w .short in omega arith) v }
+  line-none h v = record { text = _; is = none-text (none-bits h) e h; wrote = wrote-then (w .wrote) (let k = w .short in omega arith) v }

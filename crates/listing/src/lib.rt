@@ -30,11 +30,9 @@ pub fn line(store: &[u8], meter: u32, out: &mut [u8; 96]) -> usize
             let next = phrases::head(out, meter, count);
             pieces::rest(out, next, f.p, f.q)
         }
-        by_meter::ByMeter::NoneInside => {
-            let count = places::bit_count(store, meter);
-            if count == 0 {
-                return 0;
-            }
+        // no bits have a fraction, so here there are some
+        store::ByMeter::NoneInside => {
+            let count = store::bit_count(store, meter);
             let next = phrases::head(out, meter, count);
             text::word(out, next, b"none\n")
         }

@@ -38,9 +38,6 @@ enum-told c = search needs
 bit-count-requires-2 : tie.Need-bit-count-requires-2
 bit-count-requires-2 c κs = none-asked (learns-none (c .before .before .learn-meter .ensures) (c .enum-told .given .1))
 
-returns-2 : tie.Need-returns-2
-returns-2 c = both (line-empty (c .before .before .before .before .before .before .args .store .now) (c .before .before .before .before .before .before .args .meter) _ (c .before .bit-count2 .ensures) (c .if2 .taken)) (search needs)
-
 head-requires-2 : tie.Need-head-requires-2
 head-requires-2 c κs = search needs
 
@@ -56,29 +53,29 @@ enum-told-2 c = search needs
 enum-told-3 : tie.Need-enum-told-3
 enum-told-3 c = search needs
 
-returns-3 : tie.Need-returns-3
-returns-3 c = both (
+returns-2 : tie.Need-returns-2
+returns-2 c = both (
     let h = c .before .before .before in
     let n = h .before .before .before in
     let f = n .before .before in
-    line-fraction _ _ _ (n .bit-count .ensures) (h .before .before .if1 .left) (h .head .ensures) (omega arith) (known f)
+    line-fraction _ _ _ (n .bit-count .ensures) (h .head .ensures) (omega arith) (h .before .before .if1 .left) (known f)
     (rw (toZ-ofZ w32 (f .f .given .0 .0 .p) (record { sfits = c .before .struct-told .given .0 .1 })) at (c .rest .ensures))
     ) (search needs)
 
-returns-4 : tie.Need-returns-4
-returns-4 c = both (
+returns-3 : tie.Need-returns-3
+returns-3 c = both (
     let h = c .before .before .before in
-    let n = h .before .before .before in
+    let n = h .before .before in
     let e = n .before in
-    line-none _ _ _ (n .bit-count2 .ensures) (h .before .before .if2 .left) (h .head2 .ensures) (omega arith) (learns-none (e .before .before .learn-meter .ensures) (e .enum-told .given .1))
+    line-none _ _ _ (n .bit-count2 .ensures) (h .head2 .ensures) (omega arith) (learns-none (e .before .before .learn-meter .ensures) (e .enum-told .given .1))
     (c .word .ensures)
     ) (search needs)
 
-returns-5 : tie.Need-returns-5
-returns-5 c = both (line-damaged _ (c .before .before .learn-meter .ensures) (c .enum-told2 .given .1)) (search needs)
+returns-4 : tie.Need-returns-4
+returns-4 c = both (line-damaged _ (c .before .before .learn-meter .ensures) (c .enum-told2 .given .1)) (search needs)
 
-returns-6 : tie.Need-returns-6
-returns-6 c = both (line-unknown _ (c .before .before .learn-meter .ensures) (c .enum-told3 .given .1)) (search needs)
+returns-5 : tie.Need-returns-5
+returns-5 c = both (line-unknown _ (c .before .before .learn-meter .ensures) (c .enum-told3 .given .1)) (search needs)
 
 pub line-spec : {M : Type 1} → statement M
 line-spec =
@@ -92,13 +89,12 @@ line-spec =
     rest-requires
     enum-told
     bit-count-requires-2
-    returns-2
     head-requires-2
     slice-aggregate-word
     word-requires
     enum-told-2
     enum-told-3
+    returns-2
     returns-3
     returns-4
-    returns-5
-    returns-6)
+    returns-5)
