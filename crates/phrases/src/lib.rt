@@ -20,8 +20,8 @@ pub fn signed_field(out: &mut [u8], at: usize, z: i32) -> usize
     requires { ⌜ at + 12 ≤ length (now out) ⌝ }
     ensures { λ r. ⌜ Piece (now (out .entry)) at (spaced (signedOf z)) 12 (now (out .exit)) r ⌝ }
 {
-    let next = text::signed(out, at, z);
-    text::word(out, next, b" ")
+    let end = text::signed(out, at, z);
+    text::word(out, end, b" ")
 }
 
 // The two fields that a line begins with.
