@@ -8,7 +8,7 @@ use native.Mathlib.Omega.{arith}
 use lib.Dec.{lit≤}
 use lib.IntN.{ℤ, pos, _-ℤ_, _*ℤ_}
 use lib.ListN.{length}
-use Rattle.integers.proofs.Ring.{lit, #, _⊗_, ring1, _≔_}
+use Rattle.integers.proofs.Ring.{#, _⊗_, ring1, _≔_}
 use Rattle.fractions.specs.Pairs.{Inside, NoneFits}
 use Rattle.fractions.specs.declared.Fraction.{Fraction}
 use Rattle.places.specs.Places.{burst, HasPlace}

@@ -1,6 +1,5 @@
 -- `reading::hex` meets its contract: after i turns the digits of the first i bytes are written. The measure is the bytes left.
 use Prim.Native.Nat.{_-_}
-use native.Mathlib.Omega.{arith}
 use lib.ListN.{length}
 use borrow.Author.Needs.{needs}
 use Rattle.reading.proofs.Digits.{Hexing, hexing-none, hexing-room, hexing-more, hexing-done, hexing-length}
