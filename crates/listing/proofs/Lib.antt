@@ -1,7 +1,5 @@
--- Rows has that the pieces of a line are its fields, Memory that no loaded memory is too wide, Refusals what cannot be refused, Meters which line a
--- meter has, Uniqueness that it is one.
+-- Rows has that the pieces of a line are its fields, Refusals what cannot be refused, Meters which line a meter has, Uniqueness that it is one.
 pub mod Rows
-pub mod Memory
 pub mod Refusals
 pub mod Meters
 pub mod Uniqueness

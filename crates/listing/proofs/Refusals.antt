@@ -13,12 +13,12 @@ use Rattle.registers.specs.declared.StorageSheet.the-variants as Sheet
 use Rattle.registers.specs.declared.Loaded.{Loaded}
 use Rattle.registers.specs.declared.Loaded.the-variants as Load
 use Rattle.registers.proofs.Loading.{load-valid}
+use Rattle.registers.proofs.Memory.{load-narrow}
 use Rattle.walking.specs.Walks.{Walks}
 use Rattle.walking.specs.Walks as W
 use Rattle.walking.specs.declared.Walked.{Walked}
 use Rattle.walking.specs.declared.Walked.the-variants as Walk
 use Rattle.text.specs.Text.{decimalOf}
-use Rattle.listing.proofs.Memory.{load-narrow}
 use Rattle.listing.specs.Lines.{allowance, dash, LastTwo, walked, past}
 
 -- ---- the sheet
