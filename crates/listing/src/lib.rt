@@ -31,8 +31,8 @@ pub fn line(store: &[u8], meter: u32, out: &mut [u8; 96]) -> usize
             pieces::rest(out, next, f.p, f.q)
         }
         // no bits have a fraction, so here there are some
-        store::ByMeter::NoneInside => {
-            let count = store::bit_count(store, meter);
+        by_meter::ByMeter::NoneInside => {
+            let count = places::bit_count(store, meter);
             let next = phrases::head(out, meter, count);
             text::word(out, next, b"none\n")
         }
