@@ -8,7 +8,7 @@ use lib.Dec.{T}
 use lib.IntN.{ℤ, pos, negsuc, sucℤ, negℤ, natAbs, _+ℤ_, _-ℤ_, +ℤ-one, +ℤ-idl}
 use lib.Signed.{ltZ, nonNeg}
 use mir.Syntax.{w64}
-use mir.Val.{SFits}
+use mir.Val.{Fits, SFits}
 use mir.Facts.{toZ-ofZ, sfits-lit, fits-natAbs}
 use borrow.Author.Tests.{ltb-true}
 use Rattle.integers.proofs.magnitude.Statement.{statement}
@@ -52,7 +52,7 @@ cast-result c =
 
 add-result-2 : tie.Need-add-result-2
 add-result-2 c =
-    rw (toZ-ofZ (c .before .fits .x), toZ-ofZ (below c .one), toZ-ofZ (below c .two), below c .back) (fits-natAbs tt (c .before .fits .x))
+    rw (toZ-ofZ (c .before .fits .x), toZ-ofZ (below c .one), toZ-ofZ (below c .two)) (subst (Fits w64) (sym (below c .back)) (fits-natAbs tt (c .before .fits .x)))
 
 cast-result-2 : tie.Need-cast-result-2
 cast-result-2 c =
