@@ -8,7 +8,7 @@ use borrow.Author.Needs.{needs}
 use borrow.Author.Tests.{le-ltb, lt-ltb}
 use Rattle.records.specs.declared.Record.{Record}
 use Rattle.records.specs.declared.Head.the-variants as H
-use Rattle.records.specs.Block.{headAt, Parsed, parse, formOf}
+use Rattle.records.specs.Block.{blockBytes, headAt, Parsed, parse, formOf}
 use Rattle.records.proofs.Standing.{Stands}
 use Rattle.records.proofs.Walk.{Rest, start, more, refused, ended}
 use Rattle.records.proofs.Cond.{yes, no}
@@ -35,11 +35,11 @@ abbrev μ-loop : tie.MeasureT-loop
 
 returns : tie.Need-returns Inv-loop μ-loop
 unfolding formOf
-returns c = sym (yes _ _ (lt-ltb _ _ (c .if1 .taken)))
+returns c = sym (yes _ _ (lt-ltb blockBytes (length (c .before .before .args .block .now)) (omega (arith, c .if1 .taken))))
 
 loop-holds : tie.Need-loop-holds Inv-loop μ-loop
 unfolding formOf
-loop-holds c = record { within = omega arith; rest = parse (c .before .before .args .block .now); walk = start _; same = sym (no _ _ (le-ltb _ _ (c .if1 .left))) }
+loop-holds c = record { within = omega arith; rest = parse (c .before .before .args .block .now); walk = start _; same = sym (no _ _ (le-ltb blockBytes (length (c .before .before .args .block .now)) (omega (arith, c .if1 .left)))) }
 
 record-at-requires : tie.Need-record-at-requires Inv-loop μ-loop
 record-at-requires c κs = search needs
