@@ -1,6 +1,7 @@
 -- `whitening::whiten_by` meets its contract: validity is tested before the length, and each of the three answers is one case of it.
 use mathlib.Core.Path.{sym, subst}
 use mathlib.Core.List.{List}
+use native.Mathlib.Omega.{arith}
 use borrow.Author.Needs.{needs}
 use Prim.Native.Nat.{ℕ}
 use Rattle.fractions.specs.Answers.{Decides}
@@ -28,10 +29,10 @@ returns c =
     let t = w .before .before in
     let a = t .before .before .before .before .args in
     subst (λ (l : List ℕ). Whitens (a .register) (a .bytes .now) 0 (w .whiten-valid .result) l) (sym (w .whiten-valid .ensures .1))
-    (subst (λ (g : Register). Whitens (a .register) (a .bytes .now) 0 g (whiteOf (a .register) (a .bytes .now))) (sym (w .whiten-valid .ensures .0)) (whitened (is-valid (t .before)) (t .if2 .taken)))
+    (subst (λ (g : Register). Whitens (a .register) (a .bytes .now) 0 g (whiteOf (a .register) (a .bytes .now))) (sym (w .whiten-valid .ensures .0)) (whitened (is-valid (t .before)) (omega (arith, t .if2 .taken))))
 
 returns-2 : tie.Need-returns-2
-returns-2 c = long (is-valid (c .before)) (c .if2 .left)
+returns-2 c = long (is-valid (c .before)) (omega (arith, c .if2 .left))
 
 returns-3 : tie.Need-returns-3
 returns-3 c = invalid (subst (Decides (Valid (c .before .before .before .args .register))) (c .if1 .left) (c .before .is-valid .ensures))
