@@ -18,13 +18,13 @@ by-search-requires : tie.Need-by-search-requires
 by-search-requires c κs = search needs
 
 returns-3 : tie.Need-returns-3
-returns-3 c = search needs
+returns-3 c = c .by-search .ensures
 
 by-guess-requires : tie.Need-by-guess-requires
 by-guess-requires c κs = search needs
 
 returns-4 : tie.Need-returns-4
-returns-4 c = search needs
+returns-4 c = c .by-guess .ensures
 
 pub learn-spec : {M : Type 1} → statement M
 learn-spec =
