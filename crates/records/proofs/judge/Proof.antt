@@ -85,14 +85,14 @@ returns-7 : tie.Need-returns-7
 unfolding judged
 returns-7 c =
     let a = c .before .before .before .before .before .before .before .before .before .before .args in
-    let e = same-part (a .block .now) (a .at) (a .count) (sym (c .before .fits2 .ensures) ∙ c .if7 .taken) in
+    let e = same-part (a .block .now) (a .at) (a .count) (sym (c .before .clear-past .ensures) ∙ c .if7 .taken) in
     sym (yes _ _ (eq-eqb _ _ (c .before .before .before .before .before .before .before .before .if1 .left)) ∙ no _ _ (ne-eqb _ _ (c .before .before .before .before .before .before .before .if2 .left)) ∙ no _ _ (le-ltb _ _ (c .before .before .before .before .before .before .if3 .left)) ∙ no _ _ (ne-eqb _ _ (c .before .before .before .before .before .if4 .left)) ∙ no _ _ (le-ltb _ _ (few-bits (c .before .before .before .before))) ∙ no _ _ (le-ltb _ _ (enough-bytes (c .before .before .before))) ∙ yes _ _ e)
 
 returns-8 : tie.Need-returns-8
 unfolding judged
 returns-8 c =
     let a = c .before .before .before .before .before .before .before .before .before .before .args in
-    let e = same-part (a .block .now) (a .at) (a .count) (sym (c .before .fits2 .ensures) ∙ c .if7 .left) in
+    let e = same-part (a .block .now) (a .at) (a .count) (sym (c .before .clear-past .ensures) ∙ c .if7 .left) in
     sym (yes _ _ (eq-eqb _ _ (c .before .before .before .before .before .before .before .before .if1 .left)) ∙ no _ _ (ne-eqb _ _ (c .before .before .before .before .before .before .before .if2 .left)) ∙ no _ _ (le-ltb _ _ (c .before .before .before .before .before .before .if3 .left)) ∙ no _ _ (ne-eqb _ _ (c .before .before .before .before .before .if4 .left)) ∙ no _ _ (le-ltb _ _ (few-bits (c .before .before .before .before))) ∙ no _ _ (le-ltb _ _ (enough-bytes (c .before .before .before))) ∙ no _ _ e)
 
 pub judge-spec : {M : Type 1} → statement M
