@@ -53,7 +53,7 @@ not-after-sound p q p' q' = then-sound (size p q) (size p' q') _ (then-sound (na
 abbrev pub fitsb : ℕ → ℕ → ℤ → ℕ → Bool
 fitsb n A p q = eqb (natAbs (pos A *ℤ pos q -ℤ p) % 2 ^ n) 0
 
-fits-sound : (n A : ℕ) (p : ℤ) (q : ℕ) → T (fitsb n A p q) → Fits n A p q
+pub fits-sound : (n A : ℕ) (p : ℤ) (q : ℕ) → T (fitsb n A p q) → Fits n A p q
 fits-sound n A p q t = let y = part (2 ^ n) (pos A *ℤ pos q -ℤ p) (eqb→eq _ 0 t) in (y .0, y .1 .0)
 
 fits-true : (n A : ℕ) (p : ℤ) (q : ℕ) → Fits n A p q → fitsb n A p q ≡ true
@@ -87,7 +87,7 @@ first-sound n A p q t p' q' i f = elim (le-or-gt (size p' q') (size p q)) [ inl 
 abbrev pub insideb : ℤ → ℕ → Bool
 insideb p q = eqb (q % 2) 1 && (leb q limit && leb (natAbs p) limit)
 
-inside-sound : (p : ℤ) (q : ℕ) → T (insideb p q) → Inside p q
+pub inside-sound : (p : ℤ) (q : ℕ) → T (insideb p q) → Inside p q
 inside-sound p q t =
     let a = and-T (eqb (q % 2) 1) _ t in
     let b = and-T (leb q limit) (leb (natAbs p) limit) (a .1) in

@@ -1,6 +1,7 @@
 -- The starred "Bench values", all of them: one table, one statement, one computed test with its soundness law.
 --
 --   burst bits p q               "Bits are written first bit left.": the answer for these bits is (p, q)
+--   tied bits p q p' q'          .. and (p', q') fits them too, is inside the limits, and has the same size ("tied in size with (-3, 1)")
 --   load p q a m p' q' L T       (p, q) loads the cells a and the memory m; they read back (p', q'); their lead-in is L and their period T, so that the allowance
 --                                L + T answers and L + T - 1 refuses ("Allowance 36 answers, 35 refuses.")
 --   Holds                        what the document says of a row, in the words of the contracts
@@ -15,6 +16,7 @@ use lib.IntN.{ℤ, pos, negsuc}
 use lib.ListN.{length}
 use Rattle.integers.specs.Numbers.{log2, logIn}
 use Rattle.bits.specs.Bits.{num, digits, value}
+use Rattle.fractions.specs.Pairs.{Inside, Fits, size}
 use Rattle.fractions.specs.Expansion.{nextNum, iterNum, digitsTo}
 use Rattle.learning.specs.Learning.{Learns}
 use Rattle.registers.specs.declared.Register.{Register}
@@ -26,11 +28,12 @@ use Rattle.walking.specs.Walks.{Loops, statesOf, Walks, walked, past}
 use Rattle.walking.specs.Inner.{dist, Enters}
 use Rattle.walking.proofs.LeadIn.{enters-zero, enters-suc}
 use Rattle.walking.proofs.Walks.{walk-of}
-use Rattle.demands.proofs.Bursts.{learnsb, learns-sound, packed}
+use Rattle.demands.proofs.Bursts.{insideb, inside-sound, fitsb, fits-sound, learnsb, learns-sound, packed}
 use Rattle.demands.proofs.Loaded.{loadsb, loads-sound, and-T}
 
 pub data Row : Type 0 where
   burst : List ℕ → ℤ → ℕ → Row
+  tied : List ℕ → ℤ → ℕ → ℤ → ℕ → Row
   load : ℤ → ℕ → ℕ → ℤ → ℤ → ℕ → ℕ → ℕ → Row
 
 abbrev pub register : ℕ → ℕ → ℤ → Register
@@ -38,6 +41,8 @@ register q a m = record { q = q; cells = a; memory = m }
 
 abbrev pub Holds : Row → Type 0
 Holds (burst bits p q) = Learns (packed bits) (length bits) 0 p q
+Holds (tied bits p q p' q') =
+    Learns (packed bits) (length bits) 0 p q × Inside p' q' × Fits (length bits) (value (packed bits) (length bits)) p' q' × (size p q ≡ size p' q')
 Holds (load p q a m p' q' L T) =
     Loads p q 0 (register q a m) × ReadsBack (register q a m) 0 p' q' × Walks (register q a m) (L + T) 0 L T (L + T) × Walks (register q a m) (L + T - 1) 6 0 0 0
 
@@ -52,7 +57,7 @@ rows =
     ∷ burst (1 ∷ 1 ∷ []) (negsuc 0) 1
     ∷ burst (0 ∷ 1 ∷ []) (pos 2) 1
     ∷ burst (0 ∷ 0 ∷ 1 ∷ []) (pos 4) 1
-    ∷ burst (1 ∷ 0 ∷ 1 ∷ []) (negsuc 0) 3
+    ∷ tied (1 ∷ 0 ∷ 1 ∷ []) (negsuc 0) 3 (negsuc 2) 1
     ∷ burst (1 ∷ 0 ∷ 1 ∷ 1 ∷ []) (negsuc 2) 1
     ∷ burst (1 ∷ 1 ∷ 0 ∷ 0 ∷ 1 ∷ 0 ∷ 1 ∷ 0 ∷ 0 ∷ 0 ∷ 1 ∷ 0 ∷ 0 ∷ []) (negsuc 0) 37
     ∷ load (pos 1) 1 1 (negsuc 0) (pos 1) 1 1 1
@@ -75,6 +80,8 @@ enters-sound q p (suc L) o t =
 
 abbrev test : Row → Bool
 test (burst bits p q) = learnsb (packed bits) (length bits) p q
+test (tied bits p q p' q') =
+    learnsb (packed bits) (length bits) p q && (insideb p' q' && (fitsb (length bits) (value (packed bits) (length bits)) p' q' && eqb (size p q) (size p' q')))
 test (load p q a m p' q' L T) = loadsb p q a m p' q' && (entersb q p L && isOrder q' T)
 
 abbrev tests : List Row → Bool
@@ -89,6 +96,13 @@ loops-sound p q a m p' q' L P (loaded i l f) (pair v w k) e o =
 
 holds : (x : Row) → T (test x) → Holds x
 holds (burst bits p q) t = learns-sound (packed bits) (length bits) p q t
+holds (tied bits p q p' q') t =
+    let n = length bits in
+    let A = value (packed bits) n in
+    let u = and-T (learnsb (packed bits) n p q) _ t in
+    let v = and-T (insideb p' q') _ (u .1) in
+    let w = and-T (fitsb n A p' q') (eqb (size p q) (size p' q')) (v .1) in
+    (learns-sound (packed bits) n p q (u .0), inside-sound p' q' (v .0), fits-sound n A p' q' (w .0), eqb→eq (size p q) (size p' q') (w .1))
 holds (load p q a m p' q' L P) t =
     let u = and-T (loadsb p q a m p' q') (entersb q p L && isOrder q' P) t in
     let s = loads-sound p q a m p' q' (u .0) in

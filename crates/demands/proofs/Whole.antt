@@ -4,8 +4,9 @@
 -- from the same step on.
 --
 --   emittedBits n g                      the first n bits that g emits, as a list
---   Trained g p q b n meter blocks t     the hypotheses: t is the store after the blocks
---   whole-learns, whole-emits, whole-whitens   the three conclusions
+--   Trained g p q b n meter blocks t     the hypotheses: t is the store after the blocks. That g reads back p/q says that it is valid
+--   Recovered g p q number p' q' m k     the conclusions: what learning by meter and loading answer, and what the loaded register does
+--   whole-way                            the one leads to the other
 use mathlib.Core.Path.{_≡_, refl, sym, ap, ap₂, _∙_, subst, subst₂}
 use mathlib.Core.Bool.{Bool, true, false}
 use mathlib.Core.Logic.{inl, inr}
@@ -31,20 +32,20 @@ use Rattle.registers.specs.declared.Register.{Register}
 use Rattle.registers.specs.Registers.{Valid, iterOf, outTo, numOf}
 use Rattle.registers.specs.Answers.{Loads, ReadsBack, pair}
 use Rattle.registers.proofs.States.{emits, iter-add, out-add}
-use Rattle.registers.proofs.Answers.{read-back-emits}
+use Rattle.registers.proofs.Answers.{load-accepted, loaded-valid, read-back-emits}
+use Rattle.registers.proofs.Validity.{valid-iter}
 use Rattle.places.specs.Places.{isStore, fresh, burst}
 use Rattle.by_meter.specs.ByMeter.{LearnsMeter, answer, damaged, unknown, none}
 use Rattle.store.specs.Runs.{Runs, broughtBy}
 use Rattle.places.proofs.Decode.{fresh-store}
 use Rattle.store.proofs.Meters.{runs-kept, runs-fresh}
 use Rattle.whitening.specs.Whitening.{whiteOf, Whitens, whitened}
-use Rattle.whitening.proofs.Laws.{white-twice}
+use Rattle.whitening.proofs.Laws.{whitens-unique, white-length, white-twice}
 
 abbrev pub emittedBits : ℕ → Register → List ℕ
 emittedBits n g = digits 2 n (outTo n g)
 
 pub record Trained (g : Register) (p : ℤ) (q b n meter : ℕ) (blocks : List (List ℕ)) (t : List ℕ) : Type 0 where
-  pub valid : Valid g
   pub read : ReadsBack g 0 p q
   pub b-low : 1 ≤ b
   pub b-high : b ≤ 30
@@ -56,6 +57,17 @@ pub record Trained (g : Register) (p : ℤ) (q b n meter : ℕ) (blocks : List (
   pub meter-high : meter ≤ meters
   pub runs : Runs fresh blocks t
   pub bits : broughtBy meter blocks ≡ emittedBits n g
+
+-- learning answered number, p' and q', and loading that pair answered m and k
+pub record Recovered (g : Register) (p : ℤ) (q number : ℕ) (p' : ℤ) (q' m : ℕ) (k : Register) : Type 0 where
+  pub learned : number ≡ 0
+  pub p-is : p' ≡ p
+  pub q-is : q' ≡ q
+  pub loaded : m ≡ 0
+  pub emits : (n : ℕ) → outTo n k ≡ outTo n g
+  -- xs whitened with g after i steps, then with the loaded register after i steps: it is not refused, and xs come back
+  pub gives-back : (i : ℕ) (xs ys : List ℕ) (h : Register) → Whitens (iterOf i g) xs 0 h ys
+      → (a : ℕ) (h' : Register) (zs : List ℕ) → Whitens (iterOf i k) ys a h' zs → (a ≡ 0) × (zs ≡ xs)
 
 -- what reading back says
 record Read (g : Register) (p : ℤ) (q : ℕ) : Type 0 where
@@ -89,25 +101,22 @@ module _ (g : Register) (p : ℤ) (q b n meter : ℕ) (blocks : List (List ℕ))
   place-fits : Fits (length (burst t meter)) (num 2 (burst t meter)) p q
   place-fits = subst₂ (λ (m A : ℕ). Fits m A p q) (sym place-count) (sym place-value) (expansion-fits q n p (read-parts g p q (h .read) .inside .odd))
 
-  pub whole-learns : (number : ℕ) (p' : ℤ) (q' : ℕ) → LearnsMeter t meter number p' q' → (number ≡ 0) × ((p' ≡ p) × (q' ≡ q))
-  whole-learns number p' q' (answer a f) =
+  learns : (number : ℕ) (p' : ℤ) (q' : ℕ) → LearnsMeter t meter number p' q' → (number ≡ 0) × ((p' ≡ p) × (q' ≡ q))
+  learns number p' q' (answer a f) =
       let r = read-parts g p q (h .read) in
       (refl, smallest-recovered (length (burst t meter)) (num 2 (burst t meter)) b p' q' p q f (r .inside) place-fits (r .lowest .lowest) (h .p-below) (h .q-below) (omega (arith, place-count, h .enough)))
-  whole-learns number p' q' (damaged d) = absurd (differ (isStore t) (runs-kept fresh blocks t fresh-store (h .runs)) d)
-  whole-learns number p' q' (unknown d (inl e)) = absurd (omega (arith, h .meter-low))
-  whole-learns number p' q' (unknown d (inr e)) = absurd (omega (arith, h .meter-high))
-  whole-learns number p' q' (none a f) = absurd (f p q (read-parts g p q (h .read) .inside) place-fits)
+  learns number p' q' (damaged d) = absurd (differ (isStore t) (runs-kept fresh blocks t fresh-store (h .runs)) d)
+  learns number p' q' (unknown d (inl e)) = absurd (omega (arith, h .meter-low))
+  learns number p' q' (unknown d (inr e)) = absurd (omega (arith, h .meter-high))
+  learns number p' q' (none a f) = absurd (f p q (read-parts g p q (h .read) .inside) place-fits)
 
 -- ---- for ever
 module _ (g k : Register) (p : ℤ) (q : ℕ) (r : ReadsBack g 0 p q) (l : Loads p q 0 k) where
-  pub whole-emits : (n : ℕ) → outTo n k ≡ outTo n g
-  whole-emits n = read-back-emits n g k p q r l
-
   -- after any number of steps the two emit the same bits
   same-after : (i m : ℕ) → outTo m (iterOf i k) ≡ outTo m (iterOf i g)
   same-after i m =
       eq-of-mul-eq-mul-left (2 ^ i) (pow-pos i) (outTo m (iterOf i k)) (outTo m (iterOf i g))
-      (omega (arith, out-add i m k, out-add i m g, whole-emits (i + m), whole-emits i))
+      (omega (arith, out-add i m k, out-add i m g, read-back-emits (i + m) g k p q r l, read-back-emits i g k p q r l))
 
   same-white : (i : ℕ) (xs : List ℕ) → whiteOf (iterOf i k) xs ≡ whiteOf (iterOf i g) xs
   unfolding whiteOf
@@ -116,6 +125,25 @@ module _ (g k : Register) (p : ℤ) (q : ℕ) (r : ReadsBack g 0 p q) (l : Loads
       ap₂ (λ (y : ℕ) (ys : List ℕ). bitXor x y ∷ ys) (same-after i 8)
       (ap (λ (h : Register). whiteOf h xs) (sym (iter-add i 8 k)) ∙ same-white (i + 8) xs ∙ ap (λ (h : Register). whiteOf h xs) (iter-add i 8 g))
 
-  -- xs whitened with g after i steps, then with the loaded register after i steps
-  pub whole-whitens : (i : ℕ) (xs ys zs : List ℕ) (g' k' : Register) → Whitens (iterOf i g) xs 0 g' ys → Whitens (iterOf i k) ys 0 k' zs → zs ≡ xs
-  whole-whitens i xs ys zs g' k' (whitened v n) (whitened w m) = same-white i (whiteOf (iterOf i g) xs) ∙ white-twice (iterOf i g) xs
+  back : (i : ℕ) (xs ys : List ℕ) (h : Register) → Whitens (iterOf i g) xs 0 h ys
+      → (a : ℕ) (h' : Register) (zs : List ℕ) → Whitens (iterOf i k) ys a h' zs → (a ≡ 0) × (zs ≡ xs)
+  back i xs ys h (whitened v n) a h' zs w =
+      let y = whiteOf (iterOf i g) xs in
+      let u = whitens-unique (iterOf i k) y a 0 h' _ zs (whiteOf (iterOf i k) y) w (whitened (valid-iter i k (loaded-valid p q k l)) (omega (arith, white-length (iterOf i g) xs))) in
+      (u .0, u .2 ∙ same-white i y ∙ white-twice (iterOf i g) xs)
+
+pub whole-way : (g : Register) (p : ℤ) (q b n meter : ℕ) (blocks : List (List ℕ)) (t : List ℕ) → Trained g p q b n meter blocks t
+    → (number : ℕ) (p' : ℤ) (q' : ℕ) → LearnsMeter t meter number p' q' → (m : ℕ) (k : Register) → Loads p' q' m k → Recovered g p q number p' q' m k
+whole-way g p q b n meter blocks t h number p' q' a m k l =
+    let c = learns g p q b n meter blocks t h number p' q' a in
+    let l' : Loads p q m k = subst₂ (λ (x : ℤ) (y : ℕ). Loads x y m k) (c .1 .0) (c .1 .1) l in
+    let e = load-accepted p q m k (read-parts g p q (h .read) .inside) l' in
+    let d : Loads p q 0 k = subst (λ (x : ℕ). Loads p q x k) e l' in
+    record {
+      learned = c .0;
+      p-is = c .1 .0;
+      q-is = c .1 .1;
+      loaded = e;
+      emits = λ n. read-back-emits n g k p q (h .read) d;
+      gives-back = back g k p q (h .read) d;
+    }

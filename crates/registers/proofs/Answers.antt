@@ -12,13 +12,13 @@ use mathlib.Core.Path.{_≡_, refl, sym, ap, ap₂, _∙_, subst}
 use mathlib.Core.Bool.{Bool, true, false}
 use Prim.Native.Nat.{ℕ}
 use native.Mathlib.Omega.{arith}
-use lib.IntN.{ℤ, natAbs}
+use lib.IntN.{ℤ, pos, natAbs, negℤ, _+ℤ_}
 use Rattle.integers.proofs.Finite.{least-unique}
 use Rattle.fractions.specs.Pairs.{Inside, Lowest}
 use Rattle.fractions.specs.Answers.{Decides}
-use Rattle.fractions.specs.Expansion.{digitsTo}
+use Rattle.fractions.specs.Expansion.{iterNum, digitsTo}
 use Rattle.fractions.proofs.Lowest.{lowest-unique, inside-lowest}
-use Rattle.registers.specs.Registers.{Valid, Load, numOf, outTo}
+use Rattle.registers.specs.Registers.{cellCount, Valid, Load, numOf, outTo}
 use Rattle.registers.specs.Answers.{Steps, stepped, stepNumber, stepBit, stepRegister, Loads, loaded, wide, loadNumber, loadRegister, ReadsBack, pair, readNumber, readP, readQ, Sheets, sheet, sheetNumber, sheetCells, sheetBits}
 use Rattle.registers.specs.Answers as A
 use Rattle.registers.specs.declared.Register.{Register}
@@ -31,7 +31,9 @@ use Rattle.registers.specs.declared.ReadBack.the-variants as Read
 use Rattle.registers.specs.declared.StorageSheet.{StorageSheet}
 use Rattle.registers.specs.declared.StorageSheet.the-variants as Sheet
 use Rattle.registers.proofs.States.{emits}
+use Rattle.taps.specs.Sums.{overTo}
 use Rattle.registers.proofs.Loading as Rule
+use Rattle.registers.proofs.Memory.{load-narrow}
 use Rattle.fractions.proofs.Expansion.{digits-same}
 
 -- ---- valid or not
@@ -79,6 +81,20 @@ load-unique p q Load.Wide Load.Wide h k = refl
 
 pub load-numerator : (p : ℤ) (q : ℕ) (g : Register) → Loads p q 0 g → numOf g ≡ p
 load-numerator p q g (loaded i l m) = Rule.load-numerator p q g l
+
+-- a pair inside the limits loads: refusal 8 never comes
+pub load-exists : (p : ℤ) (q : ℕ) → Inside p q → (g : Register) × Loads p q 0 g
+load-exists p q i =
+    let a = digitsTo q (cellCount q) p in
+    let m = negℤ (iterNum q (cellCount q) p +ℤ pos (overTo q a (cellCount q) (cellCount q))) in
+    let l = Rule.load-is p q a m (i .odd) refl refl in
+    (record { q = q; cells = a; memory = m }, loaded i l (load-narrow p q (record { q = q; cells = a; memory = m }) i l))
+
+pub load-accepted : (p : ℤ) (q n : ℕ) (g : Register) → Inside p q → Loads p q n g → n ≡ 0
+load-accepted p q n g i h = loads-same h (load-exists p q i .1) .0
+
+pub loaded-valid : (p : ℤ) (q : ℕ) (g : Register) → Loads p q 0 g → Valid g
+loaded-valid p q g (loaded i l m) = Rule.load-valid p q g i l m
 
 pub load-emits : (n : ℕ) (p : ℤ) (q : ℕ) (g : Register) → Loads p q 0 g → outTo n g ≡ digitsTo q n p
 load-emits n p q g (loaded i l m) = emits n g (Rule.load-valid p q g i l m) ∙ ap₂ (λ (x : ℕ) (z : ℤ). digitsTo x n z) (l .q-is) (Rule.load-numerator p q g l)
