@@ -23,15 +23,15 @@ use Rattle.walking.proofs.Walks.{loops-unique}
 use Rattle.antennas.specs.Antennas.{readNumber, readPlace, readCount, readAntenna, readStart, readLength}
 use Rattle.antennas.proofs.Unique.{reads-unique, reads-numbers}
 use Rattle.capi.specs.Flat.{registerOf, Takes, Reading}
-use Rattle.capi.specs.declared.Fraction.{Fraction}
-use Rattle.capi.specs.declared.Loaded.{Loaded}
-use Rattle.capi.specs.declared.Stepped.{Stepped}
-use Rattle.capi.specs.declared.Walked.{Walked}
-use Rattle.capi.specs.declared.Storage.{Storage}
-use Rattle.capi.specs.declared.Entry.{Entry}
-use Rattle.capi.specs.declared.Word.{Word}
-use Rattle.capi.specs.declared.Taken.{Taken}
-use Rattle.capi.specs.declared.Read.{Read}
+use Rattle.flat.specs.declared.Fraction.{Fraction}
+use Rattle.flat.specs.declared.Loaded.{Loaded}
+use Rattle.flat.specs.declared.Stepped.{Stepped}
+use Rattle.flat.specs.declared.Walked.{Walked}
+use Rattle.flat.specs.declared.Storage.{Storage}
+use Rattle.flat.specs.declared.Entry.{Entry}
+use Rattle.flat.specs.declared.Word.{Word}
+use Rattle.flat.specs.declared.Taken.{Taken}
+use Rattle.flat.specs.declared.Read.{Read}
 
 -- ---- pairs
 fraction-same : (r s : Fraction) → r .refusal ≡ s .refusal → r .p ≡ s .p → r .q ≡ s .q → r ≡ s

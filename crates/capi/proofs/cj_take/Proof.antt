@@ -1,30 +1,32 @@
 -- `capi::cj_take` meets its contract: number and place are those of the answer of `take`, and a place is at most 16,384.
-use mathlib.Core.Path.{ap, _∙_}
+use mathlib.Core.Path.{_≡_, ap, _∙_}
+use mathlib.Core.List.{List}
+use Prim.Native.Nat.{ℕ, _≤_}
 use native.Mathlib.Omega.{arith}
-use Rattle.store.specs.Taking.{numberOf, placeOf}
+use Rattle.records.specs.Block.{blockBytes}
+use Rattle.store.specs.Taking.{takeOf, numberOf, placeOf}
+use Rattle.store.specs.declared.Answer.{Answer}
 use Rattle.store.proofs.Positions.{take-place}
+use Rattle.flat.specs.declared.Taken.{Taken}
+use Rattle.flat.specs.Flat.{NarrowPlace}
 use borrow.Author.Needs.{needs}
 use Rattle.capi.proofs.cj_take.Statement.{statement}
 use Rattle.capi.proofs.cj_take.Tie as tie
 
+narrow : (s b : List ℕ) {x : Answer} → x ≡ takeOf s b .answer → NarrowPlace x
+narrow s b e = let h : placeOf (takeOf s b .answer) ≤ blockBytes = take-place s b in omega (arith, h, ap placeOf e)
+
 take-requires : tie.Need-take-requires
 take-requires c κs = search needs
 
-number-requires : tie.Need-number-requires
-number-requires c κs = search needs
-
-place-requires : tie.Need-place-requires
-place-requires c κs = search needs
-
-cast-t8 : tie.Need-cast-t8
-cast-t8 c = record { fits = omega (arith, c .place .ensures, ap placeOf (c .before .before .before .before .take .ensures .0), take-place (c .before .before .before .before .before .before .before .before .args .store .now) (c .before .before .before .before .before .before .before .before .args .block .now)) }
+from-taken-requires : tie.Need-from-taken-requires
+from-taken-requires c κs = narrow (c .before .before .before .before .before .before .args .store .now) (c .before .before .before .before .before .before .args .block .now) (c .before .before .take .ensures .0)
 
 same-length : tie.Need-same-length
 same-length c = search needs
 
 returns : tie.Need-returns
-returns c = record { number-is = c .before .number .ensures ∙ ap numberOf (c .before .before .before .before .take .ensures .0); place-is = c .place .ensures ∙ ap placeOf (c .before .before .before .before .take .ensures .0); store-is = search needs }
+returns c = let e = c .before .before .before .take .ensures .0 in record { number-is = ap (λ (r : Taken). r .refusal) (c .from-taken .ensures) ∙ ap numberOf e; place-is = ap (λ (r : Taken). r .place) (c .from-taken .ensures) ∙ ap placeOf e; store-is = search needs }
 
 pub cj-take-spec : {M : Type 1} → statement M
-cj-take-spec =
-    tie.close (tie.spec take-requires number-requires place-requires cast-t8 same-length returns)
+cj-take-spec = tie.close (tie.spec take-requires from-taken-requires same-length returns)
