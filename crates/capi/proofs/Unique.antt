@@ -2,24 +2,23 @@
 --
 --   learn-unique, learn-meter-unique, read-back-unique, load-unique, step-unique, walk-unique, sheet-unique, period-unique,
 --   output-word-unique, take-unique, read-unique
-use mathlib.Core.Path.{_≡_, refl, sym, ap, _∙_}
+use mathlib.Core.Path.{_≡_, sym, ap, _∙_}
 use mathlib.Core.List.{List}
 use Prim.Native.Nat.{ℕ}
-use native.Mathlib.Omega.{arith}
 use lib.IntN.{ℤ}
-use Rattle.integers.proofs.Finite.{least-unique}
 use Rattle.fractions.specs.Answers.{Outputs}
 use Rattle.fractions.proofs.Expansion.{outputs-unique}
 use Rattle.learning.specs.Learning.{Learns}
 use Rattle.learning.proofs.Laws.{learns-unique}
-use Rattle.periods.specs.Answers.{Periods, entry, outside}
+use Rattle.periods.specs.Answers.{Periods}
+use Rattle.periods.proofs.Answers.{periods-unique}
 use Rattle.registers.specs.declared.Register.{Register}
 use Rattle.registers.specs.Answers.{Steps, Loads, ReadsBack, Sheets}
 use Rattle.registers.proofs.Answers.{steps-same, loads-same, reads-same, sheets-same}
-use Rattle.by_meter.specs.ByMeter.{LearnsMeter}
-use Rattle.by_meter.proofs.Answers.{meter-unique}
-use Rattle.walking.specs.Walks.{Walks, walked, invalid, past}
-use Rattle.walking.proofs.Walks.{loops-unique}
+use Rattle.store.specs.ByMeter.{LearnsMeter}
+use Rattle.store.proofs.Learnt.{meter-unique}
+use Rattle.walking.specs.Walks.{Walks}
+use Rattle.walking.proofs.Walks.{walks-unique}
 use Rattle.antennas.specs.Antennas.{readNumber, readPlace, readCount, readAntenna, readStart, readLength}
 use Rattle.antennas.proofs.Unique.{reads-unique, reads-numbers}
 use Rattle.capi.specs.Flat.{registerOf, Takes, Reading}
@@ -57,29 +56,12 @@ pub sheet-unique : (g : Register) (r s : Storage) → Sheets g (r .refusal) (r .
 sheet-unique g r s h k = let e = sheets-same h k in λ i. record { refusal = e .0 i; cells = e .1 i; «memory_bits» = e .2 i }
 
 -- ---- walks
-walks-same : {g : Register} {a m n L T S L' T' S' : ℕ} → Walks g a m L T S → Walks g a n L' T' S' → (m ≡ n) × (L ≡ L') × (T ≡ T') × (S ≡ S')
-walks-same (walked v x e h) (walked w y f i) = let z = loops-unique x y in (refl, z .0, z .1, omega (arith, z .0, z .1))
-walks-same (walked v x e h) (invalid b) = absurd (b v)
-walks-same (walked v x e h) (past L T w y i) = let z = loops-unique x y in absurd (omega (arith, z .0, z .1))
-walks-same (invalid b) (walked v x e h) = absurd (b v)
-walks-same (invalid b) (invalid c) = (refl, refl, refl, refl)
-walks-same (invalid b) (past L T w y i) = absurd (b w)
-walks-same (past L T w y i) (walked v x e h) = let z = loops-unique x y in absurd (omega (arith, z .0, z .1))
-walks-same (past L T w y i) (invalid b) = absurd (b w)
-walks-same (past L T w y i) (past L' T' v x h) = (refl, refl, refl, refl)
-
 pub walk-unique : (g : Register) (allowance : ℕ) (r s : Walked) → Walks g allowance (r .refusal) (r .lead) (r .period) (r .sum) → Walks g allowance (s .refusal) (s .lead) (s .period) (s .sum) → r ≡ s
-walk-unique g allowance r s h k = let e = walks-same h k in λ i. record { refusal = e .0 i; lead = e .1 i; period = e .2 i; sum = e .3 i }
+walk-unique g allowance r s h k = let e = walks-unique h k in λ i. record { refusal = e .0 i; lead = e .1 i; period = e .2 i; sum = e .3 i }
 
 -- ---- the table, the output word, and taking a block
-periods-same : {q m n t u : ℕ} → Periods q m t → Periods q n u → (m ≡ n) × (t ≡ u)
-periods-same (entry i a) (entry j b) = (refl, least-unique a b)
-periods-same (entry i a) (outside n) = absurd (n i)
-periods-same (outside n) (entry i a) = absurd (n i)
-periods-same (outside n) (outside k) = (refl, refl)
-
 pub period-unique : (q : ℕ) (r s : Entry) → Periods q (r .refusal) (r .period) → Periods q (s .refusal) (s .period) → r ≡ s
-period-unique q r s h k = let e = periods-same h k in λ i. record { refusal = e .0 i; period = e .1 i }
+period-unique q r s h k = let e = periods-unique h k in λ i. record { refusal = e .0 i; period = e .1 i }
 
 pub output-word-unique : (p : ℤ) (q : ℕ) (r s : Word) → Outputs p q (r .refusal) (r .word) → Outputs p q (s .refusal) (s .word) → r ≡ s
 output-word-unique p q r s h k = let e = outputs-unique p q _ _ _ _ h k in λ i. record { refusal = e .0 i; word = e .1 i }

@@ -9,7 +9,8 @@
 --   walk-bounded     in lowest terms, with |p| below 2^b: L ≤ b, T is the order of two modulo q, L + T ≤ b + max 1 (q - 1)
 --   repeats-iff      a state repeats without lead-in exactly where -q ≤ p ≤ 0, p unreduced
 --   lead-in-none     so its lead-in is 0 exactly there
---   walk-unique      an answer of the walk is one
+--   walks-unique     the numbers of an answer are determined
+--   walk-unique      so an answer of the walk is one
 use mathlib.Core.Path.{_≡_, refl, sym, ap, _∙_, subst}
 use mathlib.Core.Logic.{_↔_}
 use Prim.Native.Nat.{ℕ, _+_, _-_, _%_, _^_, _≤_, _<_, max}
@@ -129,17 +130,26 @@ lead-in-none g {L} v s =
     none n h = omega arith
 
 -- ---- the answer is one
+pub walks-unique : {g : Register} {allowance m n L T S L' T' S' : ℕ} → Walks g allowance m L T S → Walks g allowance n L' T' S' → (m ≡ n) × (L ≡ L') × (T ≡ T') × (S ≡ S')
+walks-unique (walked v x e h) (walked w y f i) = let z = loops-unique x y in (refl, z .0, z .1, omega (arith, z .0, z .1))
+walks-unique (walked v x e h) (invalid b) = absurd (b v)
+walks-unique (walked v x e h) (past L T w y i) = let z = loops-unique x y in absurd (omega (arith, z .0, z .1))
+walks-unique (invalid b) (walked v x e h) = absurd (b v)
+walks-unique (invalid b) (invalid c) = (refl, refl, refl, refl)
+walks-unique (invalid b) (past L T w y i) = absurd (b w)
+walks-unique (past L T w y i) (walked v x e h) = let z = loops-unique x y in absurd (omega (arith, z .0, z .1))
+walks-unique (past L T w y i) (invalid b) = absurd (b w)
+walks-unique (past L T w y i) (past L' T' v x h) = (refl, refl, refl, refl)
+
+-- the cases of an answer differ in their numbers
 pub walk-unique : (g : Register) (allowance : ℕ) (r s : Walked) → Walks g allowance (numberOf r) (leadInOf r) (periodOf r) (sumOf r)
     → Walks g allowance (numberOf s) (leadInOf s) (periodOf s) (sumOf s) → r ≡ s
-walk-unique g a (Loop l t n) (Loop m u k) (walked v x e h) (walked w y f i) =
-    let z = loops-unique x y in
-    let d : n ≡ k = omega (arith, z .0, z .1) in
-    λ j. Loop (z .0 j) (z .1 j) (d j)
-walk-unique g a (Loop l t n) Invalid (walked v x e h) (invalid b) = absurd (b v)
-walk-unique g a (Loop l t n) Past (walked v x e h) (past m u w y i) = let z = loops-unique x y in absurd (omega (arith, z .0, z .1))
-walk-unique g a Invalid (Loop l t n) (invalid b) (walked v x e h) = absurd (b v)
+walk-unique g a (Loop l t n) (Loop m u k) x y = let z = walks-unique x y in λ i. Loop (z .1 i) (z .2 i) (z .3 i)
+walk-unique g a (Loop l t n) Invalid x y = absurd (omega (arith, walks-unique x y .0))
+walk-unique g a (Loop l t n) Past x y = absurd (omega (arith, walks-unique x y .0))
+walk-unique g a Invalid (Loop l t n) x y = absurd (omega (arith, walks-unique x y .0))
 walk-unique g a Invalid Invalid x y = refl
-walk-unique g a Invalid Past (invalid b) (past m u w y i) = absurd (b w)
-walk-unique g a Past (Loop l t n) (past m u w y i) (walked v x e h) = let z = loops-unique x y in absurd (omega (arith, z .0, z .1))
-walk-unique g a Past Invalid (past m u w y i) (invalid b) = absurd (b w)
+walk-unique g a Invalid Past x y = absurd (omega (arith, walks-unique x y .0))
+walk-unique g a Past (Loop l t n) x y = absurd (omega (arith, walks-unique x y .0))
+walk-unique g a Past Invalid x y = absurd (omega (arith, walks-unique x y .0))
 walk-unique g a Past Past x y = refl

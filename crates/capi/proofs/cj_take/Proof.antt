@@ -1,9 +1,8 @@
 -- `capi::cj_take` meets its contract: number and place are those of the answer of `take`, and a place is at most 16,384.
 use mathlib.Core.Path.{_≡_, ap, _∙_}
 use mathlib.Core.List.{List}
-use Prim.Native.Nat.{ℕ, _≤_}
+use Prim.Native.Nat.{ℕ}
 use native.Mathlib.Omega.{arith}
-use Rattle.records.specs.Block.{blockBytes}
 use Rattle.store.specs.Taking.{takeOf, numberOf, placeOf}
 use Rattle.store.specs.declared.Answer.{Answer}
 use Rattle.store.proofs.Positions.{take-place}
@@ -14,7 +13,7 @@ use Rattle.capi.proofs.cj_take.Statement.{statement}
 use Rattle.capi.proofs.cj_take.Tie as tie
 
 narrow : (s b : List ℕ) {x : Answer} → x ≡ takeOf s b .answer → NarrowPlace x
-narrow s b e = let h : placeOf (takeOf s b .answer) ≤ blockBytes = take-place s b in omega (arith, h, ap placeOf e)
+narrow s b e = omega (arith, take-place s b, ap placeOf e)
 
 take-requires : tie.Need-take-requires
 take-requires c κs = search needs
