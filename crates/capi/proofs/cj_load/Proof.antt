@@ -7,6 +7,7 @@ use lib.IntN.{ℤ}
 use Rattle.capi.specs.Flat.{registerOf}
 use Rattle.registers.specs.Answers.{Loads}
 use Rattle.flat.specs.declared.Loaded.{Loaded}
+use Rattle.flat.specs.Flat.{flatLoaded}
 use borrow.Author.Needs.{needs}
 use Rattle.capi.proofs.cj_load.Statement.{statement}
 use Rattle.capi.proofs.cj_load.Tie as tie
@@ -22,7 +23,9 @@ from-loaded-requires : tie.Need-from-loaded-requires
 from-loaded-requires c κs = search needs
 
 returns : tie.Need-returns
-returns c = subst (Flat _ _) (sym (c .from-loaded .ensures)) (rw (toZ-ofZ w32 _ (c .before .before .fits .p)) at (c .before .load .ensures))
+returns c =
+    subst (Flat _ _) (sym (c .from-loaded .ensures))
+    (subst (λ (p : ℤ). Flat p (c .before .before .args .q) (flatLoaded (c .before .load .result))) (toZ-ofZ w32 (c .before .before .args .p) (c .before .before .fits .p)) (c .before .load .ensures))
 
 pub cj-load-spec : {M : Type 1} → statement M
 cj-load-spec = tie.close (tie.spec load-requires from-loaded-requires returns)

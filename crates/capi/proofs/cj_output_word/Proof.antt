@@ -6,6 +6,7 @@ use Prim.Native.Nat.{ℕ}
 use lib.IntN.{ℤ}
 use Rattle.fractions.specs.Answers.{Outputs}
 use Rattle.flat.specs.declared.Word.{Word}
+use Rattle.flat.specs.Flat.{flatOutput}
 use borrow.Author.Needs.{needs}
 use Rattle.capi.proofs.cj_output_word.Statement.{statement}
 use Rattle.capi.proofs.cj_output_word.Tie as tie
@@ -21,7 +22,9 @@ from-output-requires : tie.Need-from-output-requires
 from-output-requires c κs = search needs
 
 returns : tie.Need-returns
-returns c = subst (Flat _ _) (sym (c .from-output .ensures)) (rw (toZ-ofZ w32 _ (c .before .before .fits .p)) at (c .before .output-word .ensures))
+returns c =
+    subst (Flat _ _) (sym (c .from-output .ensures))
+    (subst (λ (p : ℤ). Flat p (c .before .before .args .q) (flatOutput (c .before .output-word .result))) (toZ-ofZ w32 (c .before .before .args .p) (c .before .before .fits .p)) (c .before .output-word .ensures))
 
 pub cj-output-word-spec : {M : Type 1} → statement M
 cj-output-word-spec = tie.close (tie.spec output-word-requires from-output-requires returns)
