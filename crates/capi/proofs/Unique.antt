@@ -15,8 +15,8 @@ use Rattle.periods.proofs.Answers.{periods-unique}
 use Rattle.registers.specs.declared.Register.{Register}
 use Rattle.registers.specs.Answers.{Steps, Loads, ReadsBack, Sheets}
 use Rattle.registers.proofs.Answers.{steps-same, loads-same, reads-same, sheets-same}
-use Rattle.store.specs.ByMeter.{LearnsMeter}
-use Rattle.store.proofs.Learnt.{meter-unique}
+use Rattle.by_meter.specs.ByMeter.{LearnsMeter}
+use Rattle.by_meter.proofs.Answers.{meter-unique}
 use Rattle.walking.specs.Walks.{Walks}
 use Rattle.walking.proofs.Walks.{walks-unique}
 use Rattle.antennas.specs.Antennas.{readNumber, readPlace, readCount, readAntenna, readStart, readLength}

@@ -34,7 +34,7 @@ pub extern "C" fn cj_learn(bytes: &[u8], count: u64) -> Fraction
 pub extern "C" fn cj_learn_meter(store: &[u8], meter: u32) -> Fraction
     ensures { λ r. ⌜ LearnsMeter (now (store .entry)) meter (r .refusal) (r .p) (r .q) ⌝ }
 {
-    flat::from_by_meter(store::learn_meter(store, meter))
+    flat::from_by_meter(by_meter::learn_meter(store, meter))
 }
 
 // The register's fraction, in lowest terms, q positive. Refuses 5, 7.

@@ -21,9 +21,9 @@ use Rattle.periods.specs.Answers as table
 use Rattle.walking.specs.declared.Walked as walk
 use Rattle.walking.specs.Walks.{numberOf, leadInOf, periodOf, sumOf}
 use Rattle.store.specs.declared.Answer.{Answer}
-use Rattle.store.specs.declared.ByMeter.{ByMeter}
+use Rattle.by_meter.specs.declared.ByMeter.{ByMeter}
 use Rattle.store.specs.Taking as taking
-use Rattle.store.specs.ByMeter.{meterNumber, meterP, meterQ}
+use Rattle.by_meter.specs.ByMeter.{meterNumber, meterP, meterQ}
 use Rattle.antennas.specs.declared.About.{About}
 use Rattle.antennas.specs.Antennas as antennas
 use Rattle.flat.specs.declared.Fraction.{Fraction}

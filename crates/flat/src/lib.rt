@@ -145,18 +145,18 @@ pub fn from_learned(x: learning::Learned) -> Fraction
 }
 
 // The fraction of a meter's place.
-pub fn from_by_meter(x: store::ByMeter) -> Fraction
+pub fn from_by_meter(x: by_meter::ByMeter) -> Fraction
     ensures { λ r. ⌜ r ≡ flatByMeter x ⌝ }
 {
     match x {
-        store::ByMeter::Answer(f) => Fraction {
+        by_meter::ByMeter::Answer(f) => Fraction {
             refusal: 0,
             p: f.p,
             q: f.q,
         },
-        store::ByMeter::DamagedStore => no_fraction(10),
-        store::ByMeter::UnknownMeter => no_fraction(14),
-        store::ByMeter::NoneInside => no_fraction(3),
+        by_meter::ByMeter::NotAStore => no_fraction(10),
+        by_meter::ByMeter::BadMeter => no_fraction(14),
+        by_meter::ByMeter::NoneInside => no_fraction(3),
     }
 }
 

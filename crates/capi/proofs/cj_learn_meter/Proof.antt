@@ -2,7 +2,7 @@
 use mathlib.Core.Path.{sym, subst}
 use mathlib.Core.List.{List}
 use Prim.Native.Nat.{ℕ}
-use Rattle.store.specs.ByMeter.{LearnsMeter}
+use Rattle.by_meter.specs.ByMeter.{LearnsMeter}
 use Rattle.flat.specs.declared.Fraction.{Fraction}
 use borrow.Author.Needs.{needs}
 use Rattle.capi.proofs.cj_learn_meter.Statement.{statement}
