@@ -1,4 +1,6 @@
 // Printing for programs: what they share. No contract can say what is written; what matters is computed in the libraries.
+ghost use Prim.Native.Nat.{_<_};
+
 pub fn text(bytes: &[u8]) {
     io::write_all(1, bytes);
 }
@@ -33,4 +35,19 @@ pub fn signed32_field(x: i32) {
 
 pub fn line_end() {
     text(b"\n");
+}
+
+fn wide(byte: u8) -> u64
+    ensures { λ r. ⌜ r < 256 ⌝ }
+{
+    byte as u64
+}
+
+// A space, then a checksum of the bytes, which a change of any one of them changes.
+pub fn checksum_field(bytes: &[u8]) {
+    let mut sum = 1;
+    for i in 0..bytes.len() {
+        sum = (sum % 65521 * 31 + wide(bytes[i])) % 65521;
+    }
+    field(sum);
 }
