@@ -1,5 +1,13 @@
 #!/usr/bin/env python3
-"""Expected output of the program store_vectors, from the document's sentences alone: a store is 32 strings of bits, a block a list of records."""
+"""Cases for the program store_vectors and the output expected of it, from the document's sentences alone: a store is 32 strings of bits, a block
+a list of records.
+
+store.py          prints the expected output
+store.py cases    writes the cases (crates/store_vectors/stdin)"""
+import random
+
+from cases import change, checksum, data, name, write
+
 PLACE, BITS, STORE, BLOCK = 514, 4096, 16448, 16384
 
 
@@ -75,26 +83,36 @@ def take(s, b):
         return *no.args, s
 
 
+held = bytearray(STORE)  # what the program's store has, to which each case tells the difference
+cases, lines = [], []
+
+
 class Store:
-    def __init__(self, s=bytes(STORE)):
-        self.s = bytearray(s)
+    def __init__(self, size=STORE, byte=0):
+        self.s = bytearray([byte] * size)
 
-    def run(self, name, b):
-        number, place, after = take(bytes(self.s), b)
+    def set(self, at, byte):
+        self.s[at] = byte
+
+    def run(self, title, b):
+        before = bytes(self.s)
+        number, place, after = take(before, b)
+        cases.append((change(held, before) if len(before) == STORE else change(before, before)) + name(title + ":") + data(b))
         self.s = bytearray(after)
-        print(f"{name}: {number} {place}")
-        s = bytes(after).ljust(STORE + PLACE, b"\0")
-        for k in range(32):
-            p = s[PLACE * k : PLACE * (k + 1)]
-            if word(p, 0):
-                total = 0
-                for byte in p[2:]:
-                    total = (31 * total + byte) % 65521
-                print(k + 1, word(p, 0), total)
+        if len(after) == STORE:
+            held[:] = after
+        lines.append(f"{title}: {number} {place} {checksum(after)}")
+        whole = bytes(after).ljust(STORE, b"\0")
+        lines.extend(f"{k + 1} {word(whole, PLACE * k)}" for k in range(32) if word(whole, PLACE * k))
 
 
-def fresh(name, b):
-    Store().run(name, b)
+def fresh(title, b):
+    Store().run(title, b)
+
+
+def clear():
+    """A fresh store by itself, where the way from one case's store to the next one's would be long."""
+    fresh("fresh", b"")
 
 
 def rec(meter, bits, mark=b"\x5a\xc3", count=None):
@@ -169,28 +187,88 @@ s.run("form before room", rec(5, "1") + rec(5, "01", count=1))
 s.run("the first that overfills", rec(5, "1") + rec(5, "0"))
 
 s = Store()
-s.s[2] = 1
+s.set(2, 1)
 s.run("a bit past the count", one)
-s.s[1] = 1
+s.set(1, 1)
 s.run("now inside it", one)
-s.s[-1] = 128
+s.set(STORE - 1, 128)
 s.run("the last bit of the last place", one)
 s.run("store before form", b"\x5a")
+s.set(STORE - 1, 0)
+s.run("that bit away again", one)
+clear()
 s = Store()
-s.s[-1] = 128
-s.s[31 * PLACE] = 16
+s.set(STORE - 1, 128)
+s.set(31 * PLACE, 16)
 s.run("a full place", one)
-s.s[31 * PLACE + 1] = 1
+s.set(31 * PLACE + 1, 1)
 s.run("count 4097", one)
-Store(bytes(STORE - 1)).run("a byte too few", one)
-Store(bytes(STORE + 1)).run("a byte too many", one)
+s.set(31 * PLACE, 0)
+s.set(31 * PLACE + 1, 0)
+s.run("count 0, a bit left", one)
+s.set(STORE - 1, 0)
+s.run("that bit away too", one)
 
+for n in range(len(listing) + 1):
+    fresh(f"{n} bytes of the listing's block", listing[:n])
+for meter in (1, 2, 16, 31, 34, 255, 256, 288, 8192, 65535):
+    fresh(f"meter {meter}", rec(meter, "1"))
+for count in (1, 7, 8, 9, 255, 256, 257, 511, 512):
+    fresh(f"{count} ones", rec(32, "1" * count))
+    fresh(f"{count} ones, a bit more in the last byte", rec(32, "1" * (count + 1), count=count))
+for count in (513, 520, 1024, 4096, 65535):
+    fresh(f"{count} told", rec(32, "1" * 520, count=count))
+fresh("all meters, the last first", b"".join(rec(meter, f"{meter:b}") for meter in range(32, 0, -1)))
+
+clear()
+s = Store()
+for count in range(1, 33):  # a record at every place in a byte, of every size modulo 8
+    s.run(f"{count} more", rec(9, ("10110" * 7)[:count]))
+
+for k in (0, 15, 31):  # each way of breaking the rules, in the first, a middle and the last place
+    for count, byte, bit in ((0, 0, 0), (1, 0, 1), (8, 1, 0), (12, 1, 4), (4095, 511, 7), (4097, 0, 0), (65535, 0, 0), (256, 511, 7)):
+        clear()
+        s = Store()
+        s.set(PLACE * k, count >> 8)
+        s.set(PLACE * k + 1, count & 255)
+        s.set(PLACE * k + 2 + byte, 1 << bit)
+        s.run(f"place {k + 1} of {count} bits with bit {8 * byte + bit}", one)
+
+rnd = random.Random(9)
+
+
+def some_bits(n):
+    return f"{rnd.getrandbits(n):0{n}b}"
+
+
+clear()
+s = Store()
+for turn in range(200):  # records of a few meters, mostly whole; one byte changed, some cut off, or a count told otherwise
+    b = b"".join(rec(rnd.choice((15, 16, 17)), some_bits(rnd.choice((1, 3, 8, 13, 64, 500, 512)))) for _ in range(rnd.randrange(1, 5)))
+    kind = rnd.randrange(6)
+    if kind == 0:
+        at = rnd.randrange(len(b))
+        b = b[:at] + bytes([rnd.randrange(256)]) + b[at + 1 :]
+    elif kind == 1:
+        b = b[: rnd.randrange(len(b))]
+    elif kind == 2:
+        b += rec(16, "1", count=rnd.choice((0, 2, 9, 513)))
+    s.run(f"turn {turn}", b)
+    if turn % 50 == 49:
+        s = Store()
+
+clear()
 b = b""
 for k in range(233):
     b = patterned(b, k // 8 + 1, 64)
 b = patterned(patterned(b, 31, 31), 32, 31)
-print(len(b))
-fresh("16384 bytes", b)
+assert len(b) == BLOCK
 fresh("16385 bytes", b + b"\0")
 fresh("16383 bytes", b[:-1])
-Store(b"\1" * STORE).run("store before length", b + b"\0\0")
+fresh("16384 bytes", b)
+Store(byte=1).run("store before length", b + b"\0\0")
+
+Store(STORE - 1).run("a byte too few", one)  # these two are last: the program has a store of its own for each
+Store(STORE + 1).run("a byte too many", one)
+
+write(cases, lines, more=2)

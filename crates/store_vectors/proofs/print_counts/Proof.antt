@@ -1,8 +1,8 @@
--- `store_vectors::print_places` is safe and ends: 32 places.
+-- `store_vectors::print_counts` is safe and ends: 32 places.
 use Prim.Native.Nat.{_-_, _≤_}
 use borrow.Author.Needs.{needs}
-use Rattle.store_vectors.proofs.print_places.Statement.{statement}
-use Rattle.store_vectors.proofs.print_places.Tie as tie
+use Rattle.store_vectors.proofs.print_counts.Statement.{statement}
+use Rattle.store_vectors.proofs.print_counts.Tie as tie
 
 abbrev Inv-loop : tie.InvT-loop
 Inv-loop places k₀ k = k ≤ 32
@@ -40,12 +40,6 @@ number-requires c κs = search needs
 field-requires : tie.Need-field-requires Inv-loop μ-loop
 field-requires c κs = search needs
 
-checksum-requires : tie.Need-checksum-requires Inv-loop μ-loop
-checksum-requires c κs = search needs
-
-field-requires-2 : tie.Need-field-requires-2 Inv-loop μ-loop
-field-requires-2 c κs = search needs
-
 line-end-requires : tie.Need-line-end-requires Inv-loop μ-loop
 line-end-requires c κs = search needs
 
@@ -61,8 +55,8 @@ loop-again c = search needs
 returns : tie.Need-returns Inv-loop μ-loop
 returns c = search needs
 
-pub print-places-spec : {M : Type 1} → statement M
-print-places-spec =
+pub print-counts-spec : {M : Type 1} → statement M
+print-counts-spec =
     tie.close
     (tie.spec
     Inv-loop
@@ -77,8 +71,6 @@ print-places-spec =
     add-number
     number-requires
     field-requires
-    checksum-requires
-    field-requires-2
     line-end-requires
     add-k
     loop-less
