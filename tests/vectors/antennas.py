@@ -1,5 +1,14 @@
 #!/usr/bin/env python3
-"""Expected output of the program antennas_vectors, from the sentences of the rules and of change request [1]: a block is a list of records."""
+"""Cases for the program antennas_vectors and the output expected of it, from the sentences of the rules and of change request [1]: a block is a list of
+records.
+
+antennas.py          prints the expected output
+antennas.py cases    writes the cases (crates/antennas_vectors/stdin)"""
+import random
+
+from cases import data, name, word as four, write
+
+cases, lines = [], []
 
 
 class No(Exception):
@@ -37,32 +46,39 @@ def records(block):
 
 
 def question(first, second, meter, ordinal):
-    """refusal, place, count, antenna, start, length, and the part"""
+    """0 with count, antenna, start and length, or the refusal, with a block's place; and the part"""
     try:
         antenna, used = 1, records(first)
     except No as wrong:
         try:
             antenna, used = 2, records(second)
         except No:
-            return [*wrong.args, 0, 0, 0, 0], b""
+            return wrong.args, b""
     if not 1 <= meter <= 32:
-        return [14, 0, 0, 0, 0, 0], b""
+        return [14], b""
     of_meter = [r for r in used if r[0] == meter]
     if not 1 <= ordinal <= len(of_meter):
-        return [18, 0, 0, 0, 0, 0], b""
+        return [18], b""
     _, count, start, payload = of_meter[ordinal - 1]
-    return [0, 0, count, antenna, start, len(payload)], payload
+    return [0, count, antenna, start, len(payload)], payload
 
 
-def run(first, second, meter, ordinal):
-    numbers, part = question(first, second, meter, ordinal)
-    print(f"{meter} {ordinal}:", *numbers, "|", *part) if part else print(f"{meter} {ordinal}:", *numbers, "|")
+def run(title, first, second, questions):
+    """Each question of two blocks; the title stands before the first."""
+    before = title + "\n"
+    for meter, ordinal in questions:
+        numbers, part = question(first, second, meter, ordinal)
+        before += f"{meter} {ordinal}:"
+        cases.append(name(before) + data(first) + data(second) + four(meter) + four(ordinal))
+        lines.append(" ".join(str(x) for x in (before, *numbers, "|", *part)))
+        before = ""
 
 
-def run_all(name, first, second):
-    print(name)
-    for meter, ordinal in ((3, 0), (3, 1), (3, 2), (3, 3), (3, 4), (7, 1), (32, 1), (4, 1), (0, 1), (33, 0), (2**32 - 1, 2**32 - 1)):
-        run(first, second, meter, ordinal)
+QUESTIONS = ((3, 0), (3, 1), (3, 2), (3, 3), (3, 4), (7, 1), (32, 1), (4, 1), (0, 1), (33, 0), (2**32 - 1, 2**32 - 1))
+
+
+def run_all(title, first, second):
+    run(title, first, second, QUESTIONS)
 
 
 def record(meter, count, payload, mark=b"\x5a\xc3"):
@@ -88,30 +104,47 @@ run_all("both empty", b"", b"")
 ONE = record(3, 8, [0xA5])
 SHORT = ONE + b"\x5a\xc3\0\3\0"
 SPARE = ONE + record(3, 7, [0xA5])
-print("each refusal of the first block")
-for block in (
-    SHORT,
-    ONE + record(3, 8, [0xA5], b"\xc3\x5a"),
-    record(0, 8, [0xA5]),
-    ONE + record(33, 8, [0xA5]),
-    record(3, 0, []),
-    ONE + record(3, 513, []),
-    ONE + record(3, 9, [0xA5]),
+for title, block in (
+    ("short", SHORT),
+    ("wrong mark", ONE + record(3, 8, [0xA5], b"\xc3\x5a")),
+    ("meter 0", record(0, 8, [0xA5])),
+    ("meter 33", ONE + record(33, 8, [0xA5])),
+    ("no bits", record(3, 0, [])),
+    ("513 bits", ONE + record(3, 513, [])),
+    ("bits past the end", ONE + record(3, 9, [0xA5])),
 ):
-    run(block, SPARE, 3, 1)
-run(SPARE, SHORT, 3, 1)
+    run(title + " first, a spare bit second", block, SPARE, [(3, 1), (3, 0), (0, 1)])
+    run(title + " second, a spare bit first", SPARE, block, [(3, 1)])
+    run(title + " first, sound second", block, ONE, [(3, 1), (3, 2)])
 
 SMALL = record(3, 13, [0x53, 0x04])
 FULL = 233 * record(3, 512, bytes(64)) + record(32, 488, bytes(61)) + record(7, 8, bytes(1))
 assert len(FULL) == 16384
 LONGER = FULL + record(7, 8, bytes(1))
-print("16,384 bytes")
-run(FULL, SMALL[:-1], 3, 233)
-run(FULL, SMALL[:-1], 3, 234)
-run(FULL, SMALL[:-1], 7, 1)
-run(SMALL[:-1], FULL, 32, 1)
-print("16,391 bytes")
-run(LONGER, SMALL, 3, 1)
-run(LONGER, SMALL[:-1], 3, 1)
-run(SMALL[:-1], LONGER, 3, 1)
-run(SMALL, LONGER, 3, 1)
+run("16,384 bytes, and a torn block", FULL, SMALL[:-1], [(3, 233), (3, 234), (7, 1)])
+run("a torn block, and 16,384 bytes", SMALL[:-1], FULL, [(32, 1)])
+run("16,391 bytes, and a sound block", LONGER, SMALL, [(3, 1)])
+run("16,391 bytes, and a torn block", LONGER, SMALL[:-1], [(3, 1)])
+run("a torn block, and 16,391 bytes", SMALL[:-1], LONGER, [(3, 1)])
+run("a sound block, and 16,391 bytes", SMALL, LONGER, [(3, 1)])
+
+rnd = random.Random(14)
+
+
+def some_block():
+    """A few records of two meters, mostly whole; or one byte changed, or some cut off."""
+    block = b""
+    for _ in range(rnd.randrange(6)):
+        count = rnd.choice((1, 7, 8, 9, 30, 64))
+        block += record(rnd.choice((1, 2)), count, rnd.getrandbits(count).to_bytes(-(-count // 8), "little"))
+    kind = rnd.randrange(4)
+    if kind == 0 and block:
+        at = rnd.randrange(len(block))
+        block = block[:at] + bytes([rnd.randrange(256)]) + block[at + 1 :]
+    return block[: rnd.randrange(len(block) + 1)] if kind == 1 else block
+
+
+for turn in range(60):
+    run(f"turn {turn}", some_block(), some_block(), [(1, 1), (2, 1), (1, rnd.randrange(5)), (2, rnd.randrange(5))])
+
+write(cases, lines)
