@@ -1,6 +1,13 @@
 #!/usr/bin/env python3
-"""What registers_vectors must print, from the document's sentences alone; document 001's table 1 is typed from the paper."""
+"""Cases for the program registers_vectors and the output expected of it, from the document's sentences alone; document 001's table 1 is typed from the
+paper.
+
+registers.py          prints the expected output
+registers.py cases    writes the cases (crates/registers_vectors/stdin)"""
+import random
 from math import gcd
+
+from cases import name, word, write
 
 B = 2**30 - 1
 
@@ -91,13 +98,37 @@ def sheet(q, a, m):
     return 0, length(q), (bin(q + 1).count("1") - 1).bit_length()
 
 
-def show(g):
-    """the register at every entry point that takes one"""
-    number, bit, after = step(*g)
-    print("step", *g, number, bit, *after)
-    print("read", *g, *read_back(*g))
-    print("sheet", *g, *sheet(*g))
-    return after
+cases, lines = [], []
+
+
+def run(title, p, q, a, m):
+    """The pair p/q loaded, and the register (q, a, m) at every entry point that takes one. A refusal has no other number but a register handed back."""
+    g = (q, a, m)
+    title += f" {p} {q} {a} {m}:"
+    answers = (load(p, q), step(*g), read_back(*g), sheet(*g))
+    cases.append(name(title) + word(p) + word(q) + word(a) + word(m))
+    loaded, stepped, back, needs = answers
+    told = (
+        [loaded[0], *(loaded[1] if loaded[0] == 0 else ())],
+        [stepped[0], *([stepped[1]] if stepped[0] == 0 else ()), *stepped[2]],
+        back if back[0] == 0 else back[:1],
+        needs if needs[0] == 0 else needs[:1],
+    )
+    lines.append(title + " " + ", ".join(" ".join(map(str, part)) for part in told))
+    return stepped[2]
+
+
+def numerator(q, a, m):
+    """What the register emits, as p/q, where a pair has room for p; else 0."""
+    if not valid(q, a, m):
+        return 0
+    p = double_sum(q, a) - m * 2 ** length(q)
+    return p if -(2**31) <= p < 2**31 else 0
+
+
+def run_three(title, g):
+    for _ in range(3):
+        g = run(title, numerator(*g), *g)
 
 
 def main():
@@ -109,29 +140,39 @@ def main():
     g = load(-1, 37)[1]
     for mem, register, bit, p, n in states:
         assert g == (37, int(register, 2), int(mem)), (g, register, mem)
-        print("table", n, mem, int(register, 2), bit, -int(p))
         assert read_back(*g) == (0, -int(p), 37)
-        number, emitted, g = step(*g)
-        assert (number, emitted) == (0, int(bit))
+        after = run(f"table 1, {n}:", -int(p), *g)
+        assert lines[-1].split(":")[2].split(",")[1].split()[1] == bit
+        g = after
     assert g == load(-1, 37)[1]
     for p in (1, 2, -1, -5, 0, 12345, B, -B, B + 1, -B - 1, 2**31 - 1, -(2**31)):
         for q in (1, 3, 15, 37, B, 0, 2, B + 1, B + 2, 2**32 - 1):
             number, g = load(p, q)
-            print("load", p, q, number, *g)
             if number == 0:
-                for _ in range(3):
-                    g = show(g)
+                assert numerator(*g) == p
+                run_three("load", g)
+            else:
+                run("load", p, q, 0, 0)
     for q in (1, 3, 5, 37, B):
         for a in (0, 2 ** length(q) - 1):
             for m in (2**30, -(2**30), -1, 1):
-                g = (q, a, m)
-                for _ in range(3):
-                    g = show(g)
+                run_three("edge", (q, a, m))
     for g in (
         (36, 19, 0), (0, 0, 0), (B + 1, 0, 0), (B + 2, 0, 0), (2**32 - 1, 0, 0), (37, 32, 0), (1, 2, 0), (B, 2**30, 0),
         (37, 2**32 - 1, 0), (37, 19, 2**30 + 1), (37, 19, -(2**30) - 1), (37, 19, 2**31 - 1), (37, 19, -(2**31)),
     ):
-        show(g)
+        run("not valid", 1, *g)
+    for k in range(1, 31):  # each number of cells, all cells set and none, and one cell too many
+        for q in (2**k - 1, 2**k + 1, 2 ** (k + 1) - 3):
+            for a in (0, 2**k - 1, 2**k):
+                run("length", -1, q, a, -1)
+    rnd = random.Random(5)
+    for turn in range(200):
+        k = rnd.randrange(1, 31)
+        q = rnd.randrange(2**k - 1, 2 ** (k + 1) - 1) | 1
+        run_three("any", (q, rnd.randrange(2**k), rnd.choice((rnd.randrange(-40, 40), rnd.randrange(-(2**30), 2**30 + 1)))))
+        run("any", rnd.randrange(-(2**31), 2**31), rnd.randrange(2**32), rnd.randrange(2**32), rnd.randrange(-(2**31), 2**31))
+    write(cases, lines)
 
 
 main()
