@@ -7,7 +7,8 @@ learning.py cases    writes the cases (crates/learning_vectors/stdin)
 Short bursts are decided by trying every pair in the written order. Long ones by a reduced basis of all pairs that fit, over big integers, and the
 short combinations of it; both are compared with each other on every burst of up to nine bits before anything is printed."""
 import random
-import sys
+
+from cases import data, number, write
 
 B = 2**30 - 1
 
@@ -128,13 +129,8 @@ def main():
             for limit in (3, 5, 6):
                 assert by_trying(n, a, limit) == by_basis(n, a, limit), (n, a, limit)
     cases = all_cases()
-    if sys.argv[1:] == ["cases"]:
-        data = b"".join(c.to_bytes(8, "little") + len(d).to_bytes(2, "little") + d for c, d in cases)
-        assert len(data) <= 65536, len(data)
-        sys.stdout.buffer.write(data)
-    else:
-        for count, data in cases:
-            print(learn(count, data))
+    assert all(len(d) <= 520 for _, d in cases)
+    write([number(count) + data(d) for count, d in cases], [learn(count, d) for count, d in cases])
 
 
 main()
