@@ -1,6 +1,12 @@
 #!/usr/bin/env python3
-"""What whitening_vectors must print, by the document's step rule alone: each byte is combined with the next eight emitted bits, the
-sum over the taps being made anew at every step."""
+"""Cases for the program whitening_vectors and the output expected of it, by the document's step rule alone: each byte is combined with the next eight
+emitted bits, the sum over the taps being made anew at every step.
+
+whitening.py          prints the expected output
+whitening.py cases    writes the cases (crates/whitening_vectors/stdin)"""
+import random
+
+from cases import checksum, data, name, word, write
 
 LIMIT = 2**30 - 1
 
@@ -40,17 +46,25 @@ def whiten(register, payload):
     return 0, (q, cells, memory), out
 
 
-def checksum(data):
-    total = 1
-    for byte in data:
-        total = (total * 31 + byte) % 65521
-    return total
+cases, lines = [], []
 
 
-def one_pass(word, register, data, n):
-    refusal, after, data[:n] = whiten(register, data[:n])
-    print(word, n, refusal, *after, data[0], data[510], data[511], data[512], checksum(data))
-    return after
+def one_pass(title, register, payload):
+    """The register and the bytes afterwards."""
+    q, cells, memory = register
+    title += f" {len(payload)} bytes from {q} {cells} {memory}:"
+    refusal, after, out = whiten(register, payload)
+    cases.append(name(title) + data(bytes(payload)) + word(q) + word(cells) + word(memory))
+    lines.append(" ".join(map(str, (title, refusal, *after, checksum(out)))))
+    return after, out
+
+
+def three(register, payload):
+    """The same register twice, which gives the first bytes back; then onwards from where it was left."""
+    after, out = one_pass("once", register, payload)
+    _, back = one_pass("again", register, out)
+    assert back == payload
+    one_pass("onwards", after, back)
 
 
 def main():
@@ -71,11 +85,14 @@ def main():
     ]
     for register in registers:
         for n in (0, 1, 3, 4, 6, 511, 512, 513):
-            data = [(7 * i + 3) % 256 for i in range(513)]
-            print("from", *register)
-            after = one_pass("once", register, data, n)
-            one_pass("again", register, data, n)
-            one_pass("onwards", after, data, n)
+            three(register, [(7 * i + 3) % 256 for i in range(n)])
+    rnd = random.Random(8)
+    for turn in range(60):
+        k = rnd.randrange(1, 31)
+        q = rnd.randrange(2**k - 1, 2 ** (k + 1) - 1) | 1
+        memory = rnd.choice((rnd.randrange(-40, 40), rnd.randrange(-(2**30), 2**30 + 1)))
+        three((q, rnd.randrange(2**k), memory), [rnd.randrange(256) for _ in range(rnd.randrange(40))])
+    write(cases, lines)
 
 
 main()
