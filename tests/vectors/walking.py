@@ -1,10 +1,17 @@
 #!/usr/bin/env python3
-"""What walking_vectors must print, from the rules of the register alone.
+"""Cases for the program walking_vectors and the output expected of it, from the rules of the register alone.
+
+walking.py          prints the expected output
+walking.py cases    writes the cases (crates/walking_vectors/stdin)
 
 A register is stepped by the step rule. Where it comes round within 5,000 steps, lead-in and period are read off the states
 themselves, kept in a table of all that were seen. Where it does not, the lead-in is the first state whose p = y - m·2^r is from -q to 0,
 and the period is the order of two modulo q / gcd(p, q), by factoring. Where both ways can be gone they must agree."""
+import random
+from functools import cache
 from math import gcd
+
+from cases import name, word, write
 
 B = 2**30 - 1
 
@@ -85,12 +92,18 @@ def by_numerators(q, a, m):
     return n, order(q // gcd(q, numerator(q, a, m)))
 
 
-def walk(q, a, m, allowance):
-    if not valid(q, a, m):
-        return 5, 0, 0, 0
+@cache
+def loop(q, a, m):
     lead, period = by_numerators(q, a, m)
     stepped = by_states(q, a, m)
     assert stepped in (None, (lead, period)), (q, a, m)
+    return lead, period
+
+
+def walk(q, a, m, allowance):
+    if not valid(q, a, m):
+        return 5, 0, 0, 0
+    lead, period = loop(q, a, m)
     if lead + period > allowance:
         return 6, 0, 0, 0
     return 0, lead, period, lead + period
@@ -113,16 +126,40 @@ REGISTERS = [
 ]
 
 
+cases, lines = [], []
+
+
+def run(q, a, m, allowance):
+    """The walk's L+T, 0 where it is refused."""
+    title = f"{q} {a} {m} {allowance}:"
+    answer = walk(q, a, m, allowance)
+    cases.append(name(title) + word(q) + word(a) + word(m) + word(allowance))
+    lines.append(" ".join(map(str, (title, *(answer if answer[0] == 0 else answer[:1])))))
+    return answer[3]
+
+
+def run_four(q, a, m):
+    """All that may be allowed, nothing, L+T, and one less."""
+    top = run(q, a, m, 2**32 - 1)
+    run(q, a, m, 0)
+    run(q, a, m, top)
+    if top > 0:
+        run(q, a, m, top - 1)
+
+
 def main():
     assert max(by_numerators(*g)[0] for g in REGISTERS if valid(*g)) >= 60
     longest = max(q for q in range(B - 400, B + 1, 2) if order(q) == q - 1)
-    registers = [(q, *load(p, q)) for p, q in PAIRS] + [(longest, *load(-1, longest))] + REGISTERS
-    for q, a, m in registers:
-        top = walk(q, a, m, 2**32 - 1)
-        answers = [top, walk(q, a, m, 0), walk(q, a, m, top[3])]
-        if top[3] > 0:
-            answers.append(walk(q, a, m, top[3] - 1))
-        print(q, a, m, *(n for answer in answers for n in answer))
+    for p, q in PAIRS + [(-1, longest)]:
+        run_four(q, *load(p, q))
+    for g in REGISTERS:
+        run_four(*g)
+    rnd = random.Random(6)
+    for turn in range(100):
+        k = rnd.choice((rnd.randrange(1, 12), rnd.randrange(1, 31)))
+        q = rnd.randrange(2**k - 1, 2 ** (k + 1) - 1) | 1
+        run_four(q, rnd.randrange(2**k), rnd.choice((rnd.randrange(-4, 4), rnd.randrange(-(2**30), 2**30 + 1))))
+    write(cases, lines)
 
 
 main()
