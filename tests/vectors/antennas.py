@@ -70,7 +70,7 @@ def run(title, first, second, questions):
         numbers, part = question(first, second, meter, ordinal)
         before += f"{meter} {ordinal}:"
         cases.append(name(before) + data(first) + data(second) + four(meter) + four(ordinal))
-        lines.append(" ".join(str(x) for x in (before, *numbers, "|", *part)))
+        lines.append(" ".join(map(str, (before, *numbers))) + "," + "".join(f" {byte}" for byte in part))
         before = ""
 
 

@@ -64,12 +64,12 @@ def by_basis(n, a, limit=B):
 
 def learn(count, data):
     if count > 4096:
-        return "1 0 0"
+        return "1"
     if len(data) < (count + 7) // 8:
-        return "2 0 0"
+        return "2"
     a = int.from_bytes(data, "little") % 2**count
     x = by_trying(count, a) if count <= 9 else by_basis(count, a)
-    return "3 0 0" if x is None else "0 %d %d" % x
+    return "3" if x is None else "0 %d %d" % x
 
 
 def expansion(p, q, n):

@@ -30,7 +30,7 @@ fn print_about(x: About) {
 // What is told of the record, and the bytes of the part.
 fn ask<'a>(first: &'a [u8], second: &'a [u8], meter: u32, ordinal: u32) {
     print_about(antennas::read_about(first, second, meter, ordinal));
-    show::text(b" |");
+    show::comma();
     print_bytes(antennas::read_part(first, second, meter, ordinal));
     show::line_end();
 }

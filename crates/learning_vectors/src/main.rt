@@ -1,4 +1,5 @@
-// Runs `learn` over the cases on standard input, and prints the number, p and q of each answer. tests/vectors/learning.py writes the cases and what is expected.
+// Runs `learn` over the cases on standard input, and prints the number of each answer, and p and q where it has a pair. tests/vectors/learning.py writes the
+// cases and what is expected.
 //
 // A case: the count in eight bytes; the bytes.
 use learning::Learned;
@@ -10,9 +11,9 @@ fn report(answer: Learned) {
             show::signed32_field(x.p);
             show::field(x.q as u64);
         }
-        Learned::CountTooLarge => show::text(b"1 0 0"),
-        Learned::TooFewBytes => show::text(b"2 0 0"),
-        Learned::NoneInside => show::text(b"3 0 0"),
+        Learned::CountTooLarge => show::number(1),
+        Learned::TooFewBytes => show::number(2),
+        Learned::NoneInside => show::number(3),
     }
     show::line_end();
 }

@@ -27,12 +27,12 @@ fn print_load(answer: Loaded) {
 fn print_step(answer: Stepped) {
     match answer {
         Stepped::Next(bit, after) => {
-            show::text(b", 0");
+            show::field(0);
             show::field(bit as u64);
             print_register(after);
         }
         Stepped::Invalid(back) => {
-            show::text(b", 5");
+            show::field(5);
             print_register(back);
         }
     }
@@ -41,24 +41,34 @@ fn print_step(answer: Stepped) {
 fn print_read_back(answer: ReadBack) {
     match answer {
         ReadBack::Pair(f) => {
-            show::text(b", 0");
+            show::field(0);
             show::signed32_field(f.p);
             show::field(f.q as u64);
         }
-        ReadBack::Invalid => show::text(b", 5"),
-        ReadBack::Outside => show::text(b", 7"),
+        ReadBack::Invalid => show::field(5),
+        ReadBack::Outside => show::field(7),
     }
 }
 
 fn print_sheet(answer: StorageSheet) {
     match answer {
         StorageSheet::Needs(cells, bits) => {
-            show::text(b", 0");
+            show::field(0);
             show::field(cells as u64);
             show::field(bits as u64);
         }
-        StorageSheet::Invalid => show::text(b", 5"),
+        StorageSheet::Invalid => show::field(5),
     }
+}
+
+fn print_answers(p: i32, g: Register) {
+    print_load(registers::load(p, g.q));
+    show::comma();
+    print_step(registers::step(g));
+    show::comma();
+    print_read_back(registers::read_back(g));
+    show::comma();
+    print_sheet(registers::sheet(g));
     show::line_end();
 }
 
@@ -68,15 +78,14 @@ fn run() {
     let q = cases::word();
     let cells = cases::word();
     let memory = cases::signed();
-    let g = Register {
-        q: q,
-        cells: cells,
-        memory: memory,
-    };
-    print_load(registers::load(p, q));
-    print_step(registers::step(g));
-    print_read_back(registers::read_back(g));
-    print_sheet(registers::sheet(g));
+    print_answers(
+        p,
+        Register {
+            q: q,
+            cells: cells,
+            memory: memory,
+        },
+    );
 }
 
 fn main() {

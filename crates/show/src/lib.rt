@@ -33,6 +33,11 @@ pub fn signed32_field(x: i32) {
     signed_field(x as i64);
 }
 
+// A literal costs the program that has it a proof, so the marks that several print stand here.
+pub fn comma() {
+    text(b",");
+}
+
 pub fn line_end() {
     text(b"\n");
 }
