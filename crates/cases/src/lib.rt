@@ -6,7 +6,7 @@ ghost use Rattle.io.specs.Counts.{Counts};
 pub fn word() -> u32 {
     let mut read = [0u8; 4];
     io::read_full(0, &mut read);
-    bits::bits_from(&read, 0, 32) as u32
+    packing::bits_from(&read, 0, 32) as u32
 }
 
 // The next eight bytes.
