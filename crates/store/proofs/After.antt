@@ -18,12 +18,13 @@ use Rattle.records.specs.Block.{meters, parse, formOf}
 use Rattle.records.specs.declared.Refusal.{Refusal}
 use Rattle.records.specs.declared.Form.{Form}
 use Rattle.records.specs.declared.Form.the-variants as F
-use Rattle.store.specs.declared.Room.{Room}
-use Rattle.store.specs.declared.Room.the-variants as R
+use Rattle.room.specs.declared.Room.{Room}
+use Rattle.room.specs.declared.Room.the-variants as R
 use Rattle.store.specs.declared.Answer.{Answer}
 use Rattle.store.specs.declared.Answer.the-variants as A
 use Rattle.places.specs.Places.{isStore, bitsOf, encodeAll}
-use Rattle.store.specs.Taking.{roomOf, appendAll, takeOf, numberOf, placeOf}
+use Rattle.room.specs.Rooms.{roomOf}
+use Rattle.store.specs.Taking.{appendAll, takeOf, numberOf, placeOf}
 use Rattle.places.proofs.Encode.{Sound}
 use Rattle.store.proofs.Taking.{bad-store, bad-form, no-room, taken}
 use Rattle.places.proofs.Decode.{is-kept, same-lists, below-all}

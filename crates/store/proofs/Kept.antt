@@ -7,7 +7,7 @@ use mathlib.Core.Logic.{_⊎_, ⊎-elim}
 use mathlib.Core.List.{List, [], _∷_, _++_, map, flatten, append-assoc, append-nil}
 use native.Mathlib.Omega.{arith}
 use lib.ListN.{length, getD, set, length-set}
-use Rattle.store.specs.declared.Room.the-variants as R
+use Rattle.room.specs.declared.Room.the-variants as R
 use lib.Seq.{getD-set-same, getD-set-other}
 use borrow.Author.Tests.{eq-eqb, ne-eqb}
 use Rattle.records.specs.Block.{meters, Entry}
@@ -16,9 +16,11 @@ use Rattle.records.specs.Named.{named, brought}
 use Rattle.records.proofs.Cond.{yes, no}
 use Rattle.records.proofs.Walk.{Each, one, each-record}
 use Rattle.places.specs.Places.{bitsOf, isStore}
-use Rattle.store.specs.Taking.{appendTo, appendAll, roomOf}
+use Rattle.room.specs.Rooms.{appendTo, roomOf}
+use Rattle.store.specs.Taking.{appendAll}
 use Rattle.places.proofs.Encode.{Sound, all-sound, store-parts, length-bitsFrom}
-use Rattle.store.proofs.Pass.{same-or-not, room-parts, sound-append, sound-set}
+use Rattle.room.proofs.Tally.{same-or-not, room-parts}
+use Rattle.store.proofs.Pass.{sound-append, sound-set}
 
 filled : (l : List (List ℕ)) (bs : List Entry) → length l ≡ meters → ((i : ℕ) → Sound (getD l i [])) → Each bs → roomOf l bs ≡ R.Fits
     → (length (appendAll l bs) ≡ meters) × ((i : ℕ) → Sound (getD (appendAll l bs) i []))

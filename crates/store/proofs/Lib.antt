@@ -1,4 +1,4 @@
--- The laws on taking blocks: Pass on the two passes over a block, Taking on the cases of taking, Kept on the lists that come of it, After on the store after
+-- The laws on taking blocks: Pass on the writing pass over a block, Taking on the cases of taking, Kept on the lists that come of it, After on the store after
 -- an answer, Meters on one meter's place, Positions on the place of an answer; Worked has the listing's block.
 pub mod Pass
 pub mod Taking

@@ -1,124 +1,39 @@
--- Where the room pass and the writing pass stand in the block, and what one record does.
+-- Where the writing pass stands in the block, and what one record does.
 use Rattle.places.specs.Places.{mostBits, placeSize, storeSize}
-use Prim.Native.Nat.{ℕ, zero, suc, _+_, _*_, _-_, _^_, _≤_, _<_}
+use Prim.Native.Nat.{ℕ, _+_, _*_, _-_, _^_, _≤_, _<_}
 use mathlib.Core.Path.{_≡_, refl, sym, ap, _∙_, subst}
-use mathlib.Core.Bool.{Bool, true, false, cond}
-use mathlib.Core.Logic.{_⊎_, inl, inr, ⊎-elim}
+use mathlib.Core.Logic.{_⊎_, ⊎-elim}
 use mathlib.Core.List.{List, [], _∷_, _++_}
 use native.Mathlib.Omega.{arith}
-use lib.ListN.{length, take, drop, getD, set, replicate, length-set, length-append}
+use lib.ListN.{length, take, drop, getD, set, length-set, length-append}
 use lib.Seq.{getD-set-same, getD-set-other, length-take-le}
 use lib.ListN.{length-drop}
-use lib.Dec.{ltb, eqb}
-use borrow.Author.Tests.{ltb-false, lt-ltb, le-ltb, eqb-true, eqb-false}
 use Rattle.bits.specs.Bits.{num, Below}
 use Rattle.bits.proofs.Numbers.{length-digits, digits-below, below-append}
 use Rattle.records.specs.declared.Record.{Record}
 use Rattle.records.specs.declared.Head.the-variants as H
 use Rattle.places.specs.Places.{placeAt, countOf}
-use Rattle.records.specs.Block.{meters, bytesFor, payload, headAt, Entry, entryOf, Parsed, parse}
+use Rattle.records.specs.Block.{bytesFor, payload, headAt, entryOf, Parsed, parse}
 use Rattle.records.proofs.Standing.{Stands}
 use Rattle.records.proofs.Walk.{Rest, More, start, more}
-use Rattle.records.proofs.Cond.{yes, no}
-use Rattle.store.specs.declared.Room.the-variants as R
-use Rattle.places.specs.Places.{bitsOf, held, encodeAll, isStore}
-use Rattle.store.specs.Taking.{appendTo, appendAll, roomOf}
+use Rattle.room.specs.declared.Room.the-variants as R
+use Rattle.places.specs.Places.{bitsOf, held, encodeAll}
+use Rattle.room.specs.Rooms.{appendTo, roomOf}
+use Rattle.store.specs.Taking.{appendAll}
+use Rattle.room.proofs.Tally.{same-or-not, room-parts}
 use Rattle.places.specs.Appending.{appended, PlaceFits}
-use Rattle.places.proofs.Encode.{getD-bitsFrom, length-bitsAt, Sound, sound-low, Lists, all-sound, store-parts, length-bitsFrom, lists-long, count-of, held-num, append-law}
+use Rattle.places.proofs.Encode.{Sound, sound-low, Lists, lists-long, count-of, held-num, append-law}
 
-pub same-or-not : (i k : ℕ) → (i ≡ k) ⊎ (i ≡ k → ⊥)
-same-or-not i k = go (eqb i k) refl
-  where
-    go : (t : Bool) → eqb i k ≡ t → (i ≡ k) ⊎ (i ≡ k → ⊥)
-    go true e = inl (eqb-true i k e)
-    go false e = inr (eqb-false i k e)
+pub sound-append : (l d : List ℕ) → Sound l → Below 2 d → length l + length d ≤ mostBits → Sound (l ++ d)
+sound-append l d g h n = record { short = subst (λ (m : ℕ). m ≤ mostBits) (sym (length-append l d)) n; bits = below-append 2 l d (g .bits) h }
 
--- the room pass
-pub record Tallied (s b used : List ℕ) (at : ℕ) : Type 0 where
-  pub within : at ≤ length b
-  pub lists : List (List ℕ)
-  pub size : length lists ≡ 32
-  pub many : length used ≡ 32
-  pub counts : (k : ℕ) → k < 32 → length (getD lists k []) ≡ countOf s (placeSize * k) + getD used k 0
-  pub short : (k : ℕ) → length (getD lists k []) ≤ mostBits
-  pub rest : Parsed
-  pub walk : Rest b at rest
-  pub same : roomOf lists (rest .records) ≡ roomOf (bitsOf s) (parse b .records)
-
-getD-zeros : (n k : ℕ) → getD {A = ℕ} (replicate n 0) k 0 ≡ 0
-getD-zeros zero k = refl
-getD-zeros (suc n) zero = refl
-getD-zeros (suc n) (suc k) = getD-zeros n k
-
-pub tallied-start : (s b : List ℕ) → isStore s ≡ true → Tallied s b (replicate 32 0) 0
-tallied-start s b e = record {
-  within = omega arith;
-  lists = bitsOf s;
-  size = length-bitsFrom meters s 0;
-  many = refl;
-  counts = λ k h. ap length (getD-bitsFrom meters s 0 k h) ∙ length-bitsAt s (0 + placeSize * k) ∙ (let z = getD-zeros 32 k in let q : countOf s (0 + placeSize * k) ≡ countOf s (placeSize * k) = ap (countOf s) (zero-plus (placeSize * k)) in omega arith);
-  short = λ k. all-sound 32 s 0 (store-parts s e .1) k .short;
-  rest = parse b;
-  walk = start b;
-  same = refl;
-}
-  where
-    zero-plus : (n : ℕ) → 0 + n ≡ n
-    zero-plus n = omega arith
-
-module _ (s b used : List ℕ) (at : ℕ) (r : Record) (t : Tallied s b used at) (i : Stands b at r) (h : headAt b at ≡ H.Found r) where
-  tally-more : More b at r (t .rest)
-  tally-more = more b at r (t .rest) (t .walk) (t .within) h (omega (arith, i .starts, i .ends))
-
-  room-step : cond (ltb mostBits (length (getD (t .lists) (r .meter - 1) []) + length (entryOf b at r .bits))) (R.Full at) (roomOf (appendTo (t .lists) (entryOf b at r)) (tally-more .then .records))
-      ≡ roomOf (bitsOf s) (parse b .records)
-  unfolding roomOf
-  room-step = sym (ap (roomOf (t .lists)) (tally-more .records)) ∙ t .same
-
-  long : length (entryOf b at r .bits) ≡ r .count
-  long = length-digits 2 (r .count) (num 256 (payload b (r .start) (r .count)))
-
-  pub meter-in : r .meter - 1 < 32
-  meter-in = omega (arith, i .meter-low, i .meter-high)
-
-  pub tallied-full : (to n : ℕ) → to ≡ placeAt (r .meter) → n ≡ countOf s to → mostBits < n + getD used (r .meter - 1) 0 + r .count → R.Full at ≡ roomOf (bitsOf s) (parse b .records)
-  tallied-full to n p f g =
-      let e : n ≡ countOf s (placeSize * (r .meter - 1)) = f ∙ ap (countOf s) p in
-      sym (yes _ _ (lt-ltb mostBits (length (getD (t .lists) (r .meter - 1) []) + length (entryOf b at r .bits)) (omega (arith, long, t .counts (r .meter - 1) meter-in)))) ∙ room-step
-
-  joined : length (getD (t .lists) (r .meter - 1) [] ++ entryOf b at r .bits) ≡ countOf s (placeSize * (r .meter - 1)) + (getD used (r .meter - 1) 0 + r .count)
-  joined =
-      length-append (getD (t .lists) (r .meter - 1) []) (entryOf b at r .bits) ∙ omega (arith, long, t .counts (r .meter - 1) meter-in)
-
-  pub tallied-more : (to n : ℕ) → to ≡ placeAt (r .meter) → n ≡ countOf s to → n + getD used (r .meter - 1) 0 + r .count ≤ mostBits → Tallied s b (set used (r .meter - 1) (getD used (r .meter - 1) 0 + r .count)) (r .next)
-  tallied-more to n p f g =
-      let e : n ≡ countOf s (placeSize * (r .meter - 1)) = f ∙ ap (countOf s) p in
-      let k = r .meter - 1 in
-      let l = t .lists in
-      let new = getD l k [] ++ entryOf b at r .bits in
-      record {
-        within = i .last;
-        lists = appendTo l (entryOf b at r);
-        size = length-set l k new ∙ t .size;
-        many = length-set used k (getD used k 0 + r .count) ∙ t .many;
-        counts = λ j h. ⊎-elim
-            (λ q. subst (λ (m : ℕ). length (getD (set l k new) m []) ≡ countOf s (placeSize * m) + getD (set used k (getD used k 0 + r .count)) m 0) (sym q)
-            (ap length (getD-set-same l k new [] (omega (arith, t .size, meter-in))) ∙ joined ∙ ap (λ (m : ℕ). countOf s (placeSize * k) + m) (sym (getD-set-same used k (getD used k 0 + r .count) 0 (omega (arith, t .many, meter-in))))))
-            (λ d. ap length (getD-set-other l k j new [] d) ∙ t .counts j h ∙ ap (λ (m : ℕ). countOf s (placeSize * j) + m) (sym (getD-set-other used k j (getD used k 0 + r .count) 0 d)))
-            (same-or-not j k);
-        short = λ j. ⊎-elim
-            (λ q. subst (λ (m : ℕ). length (getD (set l k new) m []) ≤ mostBits) (sym q)
-            (subst (λ (x : List ℕ). length x ≤ mostBits) (sym (getD-set-same l k new [] (omega (arith, t .size, meter-in)))) (omega (arith, joined))))
-            (λ d. subst (λ (x : List ℕ). length x ≤ mostBits) (sym (getD-set-other l k j new [] d)) (t .short j))
-            (same-or-not j k);
-        rest = tally-more .then;
-        walk = tally-more .walk;
-        same = sym (no _ _ (le-ltb mostBits (length (getD l k []) + length (entryOf b at r .bits)) (omega (arith, long, t .counts k meter-in)))) ∙ room-step;
-      }
-
-pub tallied-end : (s b used : List ℕ) (at : ℕ) (t : Tallied s b used at) → t .rest .records ≡ [] → R.Fits ≡ roomOf (bitsOf s) (parse b .records)
-unfolding roomOf
-tallied-end s b used at t e = sym (ap (roomOf (t .lists)) e) ∙ t .same
+-- one list changed, the others as they were
+pub sound-set : (l : List (List ℕ)) (k : ℕ) (new : List ℕ) → k < length l → ((j : ℕ) → Sound (getD l j [])) → Sound new → (j : ℕ) → Sound (getD (set l k new) j [])
+sound-set l k new h g n j =
+    ⊎-elim
+    (λ (e : j ≡ k). subst (λ (m : ℕ). Sound (getD (set l k new) m [])) (sym e) (subst Sound (sym (getD-set-same l k new [] h)) n))
+    (λ (d : j ≡ k → ⊥). subst Sound (sym (getD-set-other l k j new [] d)) (g j))
+    (same-or-not j k)
 
 -- the writing pass
 pub record Writing (s₀ b s : List ℕ) (at : ℕ) : Type 0 where
@@ -132,27 +47,6 @@ pub record Writing (s₀ b s : List ℕ) (at : ℕ) : Type 0 where
 
 pub writing-start : (s b : List ℕ) → Lists s (bitsOf s) → roomOf (bitsOf s) (parse b .records) ≡ R.Fits → Writing s b s 0
 writing-start s b l e = record { within = omega arith; lists = bitsOf s; store = l; rest = parse b; walk = start b; room = e; same = refl }
-
-pub room-parts : (l : List (List ℕ)) (x : Entry) (xs : List Entry) → roomOf l (x ∷ xs) ≡ R.Fits
-    → (length (getD l (x .meter - 1) []) + length (x .bits) ≤ mostBits) × (roomOf (appendTo l x) xs ≡ R.Fits)
-unfolding roomOf
-room-parts l x xs e = go (ltb mostBits (length (getD l (x .meter - 1) []) + length (x .bits))) refl e
-  where
-    go : (t : Bool) → ltb mostBits (length (getD l (x .meter - 1) []) + length (x .bits)) ≡ t → cond t (R.Full (x .at)) (roomOf (appendTo l x) xs) ≡ R.Fits
-        → (length (getD l (x .meter - 1) []) + length (x .bits) ≤ mostBits) × (roomOf (appendTo l x) xs ≡ R.Fits)
-    go true p q = absurd (let z : _≡_ {A = ℕ} 0 1 = cc in omega arith)
-    go false p q = (ltb-false _ _ p, q)
-
-pub sound-append : (l d : List ℕ) → Sound l → Below 2 d → length l + length d ≤ mostBits → Sound (l ++ d)
-sound-append l d g h n = record { short = subst (λ (m : ℕ). m ≤ mostBits) (sym (length-append l d)) n; bits = below-append 2 l d (g .bits) h }
-
--- one list changed, the others as they were
-pub sound-set : (l : List (List ℕ)) (k : ℕ) (new : List ℕ) → k < length l → ((j : ℕ) → Sound (getD l j [])) → Sound new → (j : ℕ) → Sound (getD (set l k new) j [])
-sound-set l k new h g n j =
-    ⊎-elim
-    (λ (e : j ≡ k). subst (λ (m : ℕ). Sound (getD (set l k new) m [])) (sym e) (subst Sound (sym (getD-set-same l k new [] h)) n))
-    (λ (d : j ≡ k → ⊥). subst Sound (sym (getD-set-other l k j new [] d)) (g j))
-    (same-or-not j k)
 
 module _ (s₀ b s : List ℕ) (at : ℕ) (r : Record) (w : Writing s₀ b s at) (i : Stands b at r) (h : headAt b at ≡ H.Found r) where
   write-more : More b at r (w .rest)

@@ -14,11 +14,12 @@ use Rattle.records.specs.declared.Form.{Form}
 use Rattle.records.specs.declared.Form.the-variants as F
 use Rattle.records.proofs.Positions.{Starts, none, one, Placed, records-inside, form-placed}
 use Rattle.records.proofs.Blocks.{form-parts}
-use Rattle.store.specs.declared.Room.{Room}
-use Rattle.store.specs.declared.Room.the-variants as R
+use Rattle.room.specs.declared.Room.{Room}
+use Rattle.room.specs.declared.Room.the-variants as R
 use Rattle.store.specs.declared.Answer.{Answer}
 use Rattle.places.specs.Places.{mostBits, isStore, bitsOf, encodeAll}
-use Rattle.store.specs.Taking.{appendTo, appendAll, roomOf, takeOf, placeOf}
+use Rattle.room.specs.Rooms.{appendTo, roomOf}
+use Rattle.store.specs.Taking.{appendAll, takeOf, placeOf}
 use Rattle.store.proofs.Taking.{bad-store, bad-form, no-room, taken}
 
 same-full : (p q : ℕ) → R.Full p ≡ R.Full q → p ≡ q

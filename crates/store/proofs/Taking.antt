@@ -7,12 +7,13 @@ use Rattle.records.specs.Block.{parse, formOf}
 use Rattle.records.specs.declared.Refusal.{Refusal}
 use Rattle.records.specs.declared.Form.the-variants as F
 use Rattle.records.proofs.Cond.{no}
-use Rattle.store.specs.declared.Room.{Room}
-use Rattle.store.specs.declared.Room.the-variants as R
+use Rattle.room.specs.declared.Room.{Room}
+use Rattle.room.specs.declared.Room.the-variants as R
 use Rattle.store.specs.declared.Answer.{Answer}
 use Rattle.store.specs.declared.Answer.the-variants as A
 use Rattle.places.specs.Places.{bitsOf, isStore, encodeAll}
-use Rattle.store.specs.Taking.{roomOf, appendAll, onRoom, Took, takeOf}
+use Rattle.room.specs.Rooms.{roomOf}
+use Rattle.store.specs.Taking.{appendAll, onRoom, Took, takeOf}
 
 both : {a : Answer} {s : List ℕ} (t : Took) → t ≡ record { answer = a; store = s } → (a ≡ t .answer) × (s ≡ t .store)
 both t e = (sym (ap (λ (x : Took). x .answer) e), sym (ap (λ (x : Took). x .store) e))

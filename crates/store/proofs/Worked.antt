@@ -9,10 +9,11 @@ use Rattle.records.specs.Block.{meters, judged, headAt, Parsed, parseFrom, pars
 use Rattle.records.specs.Named.{named, brought}
 use Rattle.records.proofs.Blocks.{form-whole}
 use Rattle.records.specs.declared.Form.the-variants as F
-use Rattle.store.specs.declared.Room.the-variants as R
+use Rattle.room.specs.declared.Room.the-variants as R
 use Rattle.store.specs.declared.Answer.the-variants as A
 use Rattle.places.specs.Places.{burst, fresh}
-use Rattle.store.specs.Taking.{roomOf, takeOf}
+use Rattle.room.specs.Rooms.{roomOf}
+use Rattle.store.specs.Taking.{takeOf}
 use Rattle.places.proofs.Decode.{fresh-store, fresh-lists, fresh-empty}
 use Rattle.store.proofs.Taking.{taken}
 use Rattle.store.proofs.Meters.{take-bits}

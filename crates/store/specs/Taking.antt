@@ -1,37 +1,26 @@
 -- Taking a block, over the 32 lists of bits.
 --
---   appendTo, appendAll    "Taking a block appends each record's bits, in block order, to its meter's place."
---   roomOf                 "17, at the first record that overfills": "meter's count would pass 4,096"
+--   appendAll              "Taking a block appends each record's bits, in block order, to its meter's place."
 --   takeOf s block         the answer and the store afterwards: "Block: 10, 11, then records in order ..; only when all have passed, 17".
 --                          "A block is taken whole or refused whole." "A refusal returns its number and changes nothing lent."
 --   numberOf x, placeOf x  the number of an answer, and its place: "the first byte of the offending record, or 0 for 10 and 11"
-use Prim.Native.Nat.{ℕ, _+_, _-_}
-use mathlib.Core.List.{List, [], _∷_, _++_}
+use Prim.Native.Nat.{ℕ}
+use mathlib.Core.List.{List, [], _∷_}
 use mathlib.Core.Bool.{cond}
-use lib.ListN.{length, getD, set}
-use lib.Dec.{ltb}
 use Rattle.records.specs.Block as block
 use Rattle.records.specs.Block.{Entry, parse, formOf}
 use Rattle.records.specs.declared.Form.{Form}
 use Rattle.records.specs.declared.Form.the-variants as F
-use Rattle.places.specs.Places.{mostBits, isStore, bitsOf, encodeAll}
-use Rattle.store.specs.declared.Room.{Room}
-use Rattle.store.specs.declared.Room.the-variants as R
+use Rattle.places.specs.Places.{isStore, bitsOf, encodeAll}
+use Rattle.room.specs.Rooms.{appendTo, roomOf}
+use Rattle.room.specs.declared.Room.{Room}
+use Rattle.room.specs.declared.Room.the-variants as R
 use Rattle.store.specs.declared.Answer.{Answer}
 use Rattle.store.specs.declared.Answer.the-variants as A
-
--- meter k is place k, counted from 1
-abbrev pub appendTo : List (List ℕ) → Entry → List (List ℕ)
-appendTo l e = set l (e .meter - 1) (getD l (e .meter - 1) [] ++ e .bits)
 
 unfoldable pub appendAll : List (List ℕ) → List Entry → List (List ℕ)
 appendAll l [] = l
 appendAll l (e ∷ es) = appendAll (appendTo l e) es
-
-unfoldable pub roomOf : List (List ℕ) → List Entry → Room
-roomOf l [] = R.Fits
-roomOf l (e ∷ es) =
-    cond (ltb mostBits (length (getD l (e .meter - 1) []) + length (e .bits))) (R.Full (e .at)) (roomOf (appendTo l e) es)
 
 pub record Took : Type 0 where
   pub answer : Answer

@@ -3,7 +3,9 @@ ghost use mathlib.Core.Path.{_≡_};
 ghost use mathlib.Core.Bool.{true};
 ghost use Rattle.records.specs.Block.{parse};
 ghost use Rattle.places.specs.Places.{isStore, bitsOf, encodeAll};
-ghost use Rattle.store.specs.Taking.{roomOf, appendAll, takeOf, numberOf, placeOf};
+ghost use Rattle.room.specs.Rooms.{roomOf};
+ghost use Rattle.room.specs.declared.Room.the-variants.{Fits};
+ghost use Rattle.store.specs.Taking.{appendAll, takeOf, numberOf, placeOf};
 
 // What taking a block answers: that it was taken and nothing more, or why not.
 pub enum Answer {
@@ -11,12 +13,6 @@ pub enum Answer {
     NotAStore,
     Malformed(records::Refusal),
     NoRoom(usize),
-}
-
-// Whether every record of a block has room, or where the first begins that has not.
-enum Room {
-    Fits,
-    Full(usize),
 }
 
 // The document's number for an answer, 0 for a block that was taken.
@@ -43,34 +39,9 @@ pub fn place(x: Answer) -> usize
     }
 }
 
-// Judges the room of every record, before anything is written: with bits already appended, a refusal could not leave the store as it was.
-fn room_for(store: &[u8], block: &[u8]) -> Room
-    requires { ⌜ isStore (now store) ≡ true ⌝ }
-    ensures { λ r. ⌜ r ≡ roomOf (bitsOf (now (store .entry))) (parse (now (block .entry)) .records) ⌝ }
-{
-    let mut used = [0u32; records::METERS];
-    let mut at = 0;
-    loop {
-        match records::record_at(block, at) {
-            records::Head::Found(r) => {
-                let k = r.meter - 1;
-                let have = places::count_of(store, places::place_at(r.meter)) + used[k] as usize;
-                let count = r.count;
-                if places::MOST_BITS < have + count {
-                    return Room::Full(at);
-                }
-                used[k] += count as u32;
-                at = r.next;
-            }
-            records::Head::Refused(_) => return Room::Fits,
-            records::Head::End => return Room::Fits,
-        }
-    }
-}
-
 // Appends each record's bits to its meter's place, in block order.
 fn write_all(store: &mut [u8], block: &[u8])
-    requires { ⌜ (isStore (now store) ≡ true) × (roomOf (bitsOf (now store)) (parse (now block) .records) ≡ Room.Fits) ⌝ }
+    requires { ⌜ (isStore (now store) ≡ true) × (roomOf (bitsOf (now store)) (parse (now block) .records) ≡ Fits) ⌝ }
     ensures { λ _. ⌜ now (store .exit) ≡ encodeAll (appendAll (bitsOf (now (store .entry))) (parse (now (block .entry)) .records)) ⌝ }
 {
     let mut at = 0;
@@ -100,9 +71,9 @@ pub fn take(store: &mut [u8], block: &[u8]) -> Answer
     }
     match records::form_of(block) {
         records::Form::Refused(x) => Answer::Malformed(x),
-        records::Form::Sound => match room_for(store, block) {
-            Room::Full(p) => Answer::NoRoom(p),
-            Room::Fits => {
+        records::Form::Sound => match room::room_for(store, block) {
+            room::Room::Full(p) => Answer::NoRoom(p),
+            room::Room::Fits => {
                 write_all(store, block);
                 Answer::Taken
             }

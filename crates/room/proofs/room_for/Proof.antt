@@ -1,4 +1,4 @@
--- `store::room_for` meets its contract: the lists so far have the lengths of the counts in the store and the bits already used. The measure is the bytes left.
+-- `room::room_for` meets its contract: the lists so far have the lengths of the counts in the store and the bits already used. The measure is the bytes left.
 use Prim.Native.Nat.{_-_}
 use mathlib.Core.Path.{sym, ap, _∙_}
 use native.Mathlib.Omega.{arith}
@@ -8,9 +8,9 @@ use Rattle.records.specs.Block.{Parsed}
 use Rattle.records.proofs.Standing.{found-stands}
 use Rattle.records.proofs.Walk.{refused, ended}
 use Rattle.places.proofs.Encode.{store-parts}
-use Rattle.store.proofs.Pass.{Tallied, tallied-start, tallied-full, tallied-more, tallied-end, meter-in}
-use Rattle.store.proofs.room_for.Statement.{statement}
-use Rattle.store.proofs.room_for.Tie as tie
+use Rattle.room.proofs.Tally.{Tallied, tallied-start, tallied-full, tallied-more, tallied-end, meter-in}
+use Rattle.room.proofs.room_for.Statement.{statement}
+use Rattle.room.proofs.room_for.Tie as tie
 
 abbrev Inv-loop : tie.InvT-loop
 Inv-loop store block used₀ at₀ used at = Tallied store block used at

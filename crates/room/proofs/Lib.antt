@@ -1,0 +1,2 @@
+-- The laws on the room pass.
+pub mod Tally
