@@ -51,26 +51,24 @@ fn number_argument(i: usize, name: &[u8]) -> Number {
     }
 }
 
-fn open(i: usize) -> i32 {
-    let mut path = io::buffer();
-    let n = os::arg(i, &mut path);
-    let fd = os::open_read(&path[..n]);
+fn open(path: &[u8]) -> i32 {
+    let fd = os::open_read(path);
     if fd < 0 {
         io::write_all(STDERR_FILENO, b"read: this block cannot be opened: ");
-        os::fail(&path[..n]);
+        os::fail(path);
     }
     fd
 }
 
-// Says whether reading failed, which looks like the end of the file: a second read tells the two apart.
-fn is_broken(fd: i32, name: &[u8]) -> bool {
+// Whether reading fails. A read that failed before looks like the end of the file: one more tells the two apart.
+fn is_broken(fd: i32) -> bool {
     let mut more = [0u8; 1];
-    if libc::read(fd, &mut more) < 0 {
-        io::write_all(STDERR_FILENO, b"read: this block cannot be read: ");
-        os::fail(name);
-        return true;
-    }
-    false
+    libc::read(fd, &mut more) < 0
+}
+
+fn say_broken(path: &[u8]) {
+    io::write_all(STDERR_FILENO, b"read: this block cannot be read: ");
+    os::fail(path);
 }
 
 fn print<'a>(first: &'a [u8], second: &'a [u8], meter: u32, ordinal: u32) {
@@ -81,18 +79,39 @@ fn print<'a>(first: &'a [u8], second: &'a [u8], meter: u32, ordinal: u32) {
 }
 
 // One byte more is read than a block may have, so that a longer file is refused and not cut.
-fn answer(one: i32, two: i32, meter: u32, ordinal: u32) {
+fn answer(first_path: &[u8], second_path: &[u8], meter: u32, ordinal: u32) {
+    let one = open(first_path);
+    if one < 0 {
+        return;
+    }
+    let two = open(second_path);
+    if two < 0 {
+        return;
+    }
     let mut first = [0u8; 16385];
     let mut second = [0u8; 16385];
     let n = io::read_full(one, &mut first);
-    let m = io::read_full(two, &mut second);
-    if is_broken(one, b"FIRST") {
+    if is_broken(one) {
+        say_broken(first_path);
         return;
     }
-    if is_broken(two, b"SECOND") {
+    let m = io::read_full(two, &mut second);
+    if is_broken(two) {
+        say_broken(second_path);
         return;
     }
     print(&first[..n], &second[..m], meter, ordinal);
+}
+
+// Whether the argument that was just taken was longer than the bytes that it was to be put in.
+fn is_cut() -> bool {
+    os::errno() == libc::ENAMETOOLONG
+}
+
+fn say_cut(name: &[u8]) {
+    io::write_all(STDERR_FILENO, b"read: the path of ");
+    io::write_all(STDERR_FILENO, name);
+    io::write_all(STDERR_FILENO, b" is longer than 4095 bytes\n");
 }
 
 fn main() {
@@ -109,13 +128,17 @@ fn main() {
     let Number::Is(ordinal) = number_argument(2, b"ORDINAL") else {
         return;
     };
-    let one = open(3);
-    if one < 0 {
+    let mut first = io::buffer();
+    let n = os::arg(3, &mut first);
+    if is_cut() {
+        say_cut(b"FIRST");
         return;
     }
-    let two = open(4);
-    if two < 0 {
+    let mut second = io::buffer();
+    let m = os::arg(4, &mut second);
+    if is_cut() {
+        say_cut(b"SECOND");
         return;
     }
-    answer(one, two, meter, ordinal);
+    answer(&first[..n], &second[..m], meter, ordinal);
 }
