@@ -1,12 +1,12 @@
 // Printing for programs: what they share. No contract can say what is written; what matters is computed in the libraries.
-ghost use Prim.Native.Nat.{_<_};
+use libc::STDOUT_FILENO;
 
 pub fn text(bytes: &[u8]) {
-    io::write_all(1, bytes);
+    io::write_all(STDOUT_FILENO, bytes);
 }
 
 pub fn number(n: u64) {
-    io::print_decimal(1, n);
+    io::print_decimal(STDOUT_FILENO, n);
 }
 
 // A space, then the number.
