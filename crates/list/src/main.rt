@@ -3,35 +3,36 @@
 // on standard error and prints nothing.
 use libc::STDERR_FILENO;
 use libc::STDIN_FILENO;
+use libc::STDOUT_FILENO;
 
 // One byte more than the longest block, so that a longer input is seen and refused, and not cut.
-const MOST: usize = 16385;
+const MOST: usize = records::BLOCK_BYTES + 1;
 
 fn print_header() {
-    let mut out = [0u8; 96];
+    let mut out = [0u8; listing::LINE];
     let n = listing::header(&mut out);
-    io::write_all(1, &out[..n]);
+    io::write_all(STDOUT_FILENO, &out[..n]);
 }
 
 fn print_line(store: &[u8], meter: u32) {
-    let mut out = [0u8; 96];
+    let mut out = [0u8; listing::LINE];
     let n = listing::line(store, meter, &mut out);
-    io::write_all(1, &out[..n]);
+    io::write_all(STDOUT_FILENO, &out[..n]);
 }
 
 fn print_meters(store: &[u8]) {
     print_header();
-    let mut meter: u32 = 1;
-    while meter <= 32 {
-        print_line(store, meter);
+    let mut meter: usize = 1;
+    while meter <= records::METERS {
+        print_line(store, meter as u32);
         meter += 1;
     }
 }
 
 fn print_refusal(answer: store::Answer) {
-    let mut out = [0u8; 96];
+    let mut out = [0u8; listing::LINE];
     let n = listing::refused(store::number(answer), store::place(answer), &mut out);
-    io::write_all(1, &out[..n]);
+    io::write_all(STDOUT_FILENO, &out[..n]);
 }
 
 fn print_listing(block: &[u8]) {

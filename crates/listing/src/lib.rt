@@ -8,8 +8,11 @@ ghost use Rattle.listing.specs.Lines.{Lines, Writes, row, headerText};
 
 mod pieces; // pieces.rt: the parts of a line
 
+// The most bytes that a line takes.
+pub const LINE: usize = 96;
+
 // The header line at the start of the bytes, and its length.
-pub fn header(out: &mut [u8; 96]) -> usize
+pub fn header(out: &mut [u8; LINE]) -> usize
     ensures { λ r. ⌜ Wrote (now (out .entry)) 0 headerText (now (out .exit)) r ⌝ }
     ensures { λ r. ⌜ Counts r (now (out .exit)) ⌝ }
 {
@@ -17,7 +20,7 @@ pub fn header(out: &mut [u8; 96]) -> usize
 }
 
 // The line of a meter at the start of the bytes, and its length: 0 where the meter has no bits, or the store or the meter is refused.
-pub fn line(store: &[u8], meter: u32, out: &mut [u8; 96]) -> usize
+pub fn line(store: &[u8], meter: u32, out: &mut [u8; LINE]) -> usize
     ensures { λ r. ⌜ Writes (Lines (now (store .entry)) meter) (now (out .entry)) 0 (now (out .exit)) r ⌝ }
     ensures { λ r. ⌜ Counts r (now (out .exit)) ⌝ }
 {
@@ -42,7 +45,7 @@ pub fn line(store: &[u8], meter: u32, out: &mut [u8; 96]) -> usize
 }
 
 // The line of a refused block at the start of the bytes, and its length.
-pub fn refused(number: u32, place: usize, out: &mut [u8; 96]) -> usize
+pub fn refused(number: u32, place: usize, out: &mut [u8; LINE]) -> usize
     ensures { λ r. ⌜ Wrote (now (out .entry)) 0 (row (placedText number place) []) (now (out .exit)) r ⌝ }
     ensures { λ r. ⌜ Counts r (now (out .exit)) ⌝ }
 {

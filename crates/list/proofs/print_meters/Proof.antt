@@ -17,6 +17,9 @@ print-header-requires c κs = search needs
 loop-holds : tie.Need-loop-holds Inv-loop μ-loop
 loop-holds c = omega arith
 
+cast-print-line : tie.Need-cast-print-line Inv-loop μ-loop
+cast-print-line c = omega arith
+
 print-line-requires : tie.Need-print-line-requires Inv-loop μ-loop
 print-line-requires c κs = search needs
 
@@ -40,6 +43,7 @@ print-meters-spec =
     μ-loop
     print-header-requires
     loop-holds
+    cast-print-line
     print-line-requires
     add-meter
     loop-less
