@@ -4,6 +4,12 @@
 use libc::STDERR_FILENO;
 use libc::STDOUT_FILENO;
 
+// One byte more than the longest block, so that a longer file is seen and refused, and not cut.
+const MOST: usize = records::BLOCK_BYTES + 1;
+
+// The largest number of an argument: what a u32 holds.
+const LARGEST: usize = 4294967295;
+
 enum Number {
     Is(u32),
     No,
@@ -17,15 +23,15 @@ fn parsed(digits: &[u8]) -> Number {
     let mut n: usize = 0;
     let mut i = 0;
     while i < digits.len() {
-        let d = bits::wide(digits[i]);
-        if d < 48 {
+        let d = digits[i];
+        if d < b'0' {
             return Number::No;
         }
-        if 57 < d {
+        if b'9' < d {
             return Number::No;
         }
-        n = 10 * n + (d - 48);
-        if 4294967295 < n {
+        n = 10 * n + bits::wide(d - b'0');
+        if LARGEST < n {
             return Number::No;
         }
         i += 1;
@@ -78,7 +84,6 @@ fn print<'a>(first: &'a [u8], second: &'a [u8], meter: u32, ordinal: u32) {
     io::write_all(STDOUT_FILENO, b"\n");
 }
 
-// One byte more is read than a block may have, so that a longer file is refused and not cut.
 fn answer(first_path: &[u8], second_path: &[u8], meter: u32, ordinal: u32) {
     let one = open(first_path);
     if one < 0 {
@@ -88,8 +93,8 @@ fn answer(first_path: &[u8], second_path: &[u8], meter: u32, ordinal: u32) {
     if two < 0 {
         return;
     }
-    let mut first = [0u8; 16385];
-    let mut second = [0u8; 16385];
+    let mut first = [0u8; MOST];
+    let mut second = [0u8; MOST];
     let n = io::read_full(one, &mut first);
     if is_broken(one) {
         say_broken(first_path);
