@@ -28,6 +28,21 @@ pub fn read(first: &[u8], second: &[u8], meter: u32, ordinal: u32) -> Read {
     refused(18, 0)
 }
 
+/// What the program `read` prints: antenna, bit count and payload in hexadecimal; or the refusal, with a place where it is a block's.
+pub fn line(first: &[u8], second: &[u8], meter: u32, ordinal: u32) -> String {
+    let answer = read(first, second, meter, ordinal);
+    match answer.refusal {
+        0 => {
+            let block = if answer.antenna == 1 { first } else { second };
+            let payload = &block[answer.start as usize..(answer.start + answer.length) as usize];
+            let digits: String = payload.iter().map(|byte| format!("{byte:02X}")).collect();
+            format!("{} {} {digits}\n", answer.antenna, answer.count)
+        }
+        14 | 18 if records(first).is_ok() || records(second).is_ok() => format!("refused {}\n", answer.refusal),
+        refusal => format!("refused {refusal} at {}\n", answer.place),
+    }
+}
+
 #[cfg(test)]
 mod tests {
     use super::*;
@@ -69,5 +84,18 @@ mod tests {
         // an empty block is well formed
         assert_eq!(read(&[], &good, 3, 1), refused(18, 0));
         assert_eq!(read(&torn, &[], 3, 1), refused(18, 0));
+    }
+
+    #[test]
+    fn lines() {
+        let good = [record_of(3, &[true; 9]), record_of(3, &[true; 4])].concat();
+        let meter_33 = [good.clone(), record_of(33, &[true])].concat();
+        let good = &good[..];
+        assert_eq!(line(good, &meter_33, 3, 1), "1 9 FF01\n");
+        assert_eq!(line(&meter_33, good, 3, 2), "2 4 0F\n");
+        assert_eq!(line(good, good, 3, 3), "refused 18\n");
+        // the 14 of the question has no place, that of a block has one
+        assert_eq!(line(good, good, 33, 1), "refused 14\n");
+        assert_eq!(line(&meter_33, &meter_33, 3, 1), "refused 14 at 15\n");
     }
 }

@@ -1,7 +1,9 @@
-//! Makes the blocks of samples/ and what the listing program must print for each: `samples FOLDER` writes them there.
-//! The blocks follow from this file alone, and the listings from the reference, so that anyone can make them again.
+//! Makes the blocks of samples/ and what the programs must print: the listing of each block but those of the two antennas, and the
+//! answers to a few questions about those. `samples FOLDER` writes them there. The blocks follow from this file alone, what is printed
+//! from the reference, so that anyone can make them again.
 
-use reference::fractions::bits_of;
+use reference::antennas::line;
+use reference::fractions::{bits_of, unpacked};
 use reference::listing::listing;
 use reference::store::record_of;
 use std::path::Path;
@@ -76,15 +78,33 @@ fn all_meters() -> Vec<u8> {
     block
 }
 
+/// Meter 3 twice and meter 7. The first antenna lost the end of meter 3's second record, the second heard meter 32 as well.
+fn antennas() -> [Vec<u8>; 2] {
+    let both =
+        [record_of(3, &bits_of(-1, 37, 13)), record_of(7, &bits_of(-1, 3, 3)), record_of(3, &unpacked(&[0x0B, 0xA5, 0xFF], 24))].concat();
+    let first = both[..both.len() - 1].to_vec();
+    let second = [both, record_of(32, &[true])].concat();
+    [first, second]
+}
+
+/// A meter and an ordinal: a record of each of two meters, and one more than there is.
+const QUESTIONS: [(u32, u32); 3] = [(3, 2), (3, 3), (32, 1)];
+
 fn main() -> std::io::Result<()> {
     let folder = std::env::args().nth(1).expect("usage: samples FOLDER");
+    let write = |name: &str, bytes: &[u8]| std::fs::write(Path::new(&folder).join(name), bytes);
     let example = vec![0x5A, 0xC3, 0, 3, 0, 0x0D, 0x53, 0x04, 0x5A, 0xC3, 0, 7, 0, 3, 5];
     // the receiver was cut off in the second record's bits
     let refused = [record_of(3, &bits_of(-1, 37, 13)), record_of(7, &bits_of(-1, 3, 20))[..8].to_vec()].concat();
     for (name, block) in [("example", example), ("refused", refused), ("all-meters", all_meters()), ("empty", vec![])] {
-        let path = Path::new(&folder).join(name);
-        std::fs::write(path.with_extension("block"), &block)?;
-        std::fs::write(path.with_extension("expected"), listing(&block))?;
+        write(&format!("{name}.block"), &block)?;
+        write(&format!("{name}.expected"), listing(&block).as_bytes())?;
+    }
+    let [first, second] = antennas();
+    write("antenna-1.block", &first)?;
+    write("antenna-2.block", &second)?;
+    for (meter, ordinal) in QUESTIONS {
+        write(&format!("antenna-{meter}-{ordinal}.expected"), line(&first, &second, meter, ordinal).as_bytes())?;
     }
     Ok(())
 }
