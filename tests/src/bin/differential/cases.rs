@@ -23,7 +23,7 @@ pub type Outcome = Result<u32, Box<Difference>>;
 /// A function under comparison.
 pub struct Subject {
     pub name: &'static str,
-    /// The refusals that its cases must meet at least once in a full round, beside 0. (8 is missing: no pair was found that has it.)
+    /// The refusals that its cases must meet at least once in a full round, beside 0. (8 is missing: it cannot come, by the law `load-narrow` of registers.)
     pub refusals: &'static [u32],
     pub cases: u64,
     pub run: fn(&dyn Library, u64, &mut Random) -> Outcome,

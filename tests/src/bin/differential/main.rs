@@ -34,19 +34,28 @@ fn options() -> Result<Options, String> {
         match word.as_str() {
             "--seed" => options.seed = number()?,
             "--rounds" => options.rounds = number()?,
-            "--only" => options.only = words.next(),
+            "--only" => options.only = Some(words.next().ok_or("--only needs a function")?),
             "--planted" => options.planted = true,
             _ => return Err("usage: differential [--seed N] [--rounds N] [--only FUNCTION] | --planted [--seed N]".to_string()),
         }
     }
-    Ok(options)
+    match &options.only {
+        Some(only) if SUBJECTS.iter().all(|subject| subject.name != only) => {
+            let names: Vec<&str> = SUBJECTS.iter().map(|subject| subject.name).collect();
+            Err(format!("--only {only}: no such function; there are {}", names.join(", ")))
+        }
+        _ => Ok(options),
+    }
 }
+
+/// The numbers that an answer's refusal can be: 0 to 18.
+const REFUSALS: usize = 19;
 
 /// What the cases of one function came to.
 struct Tally {
     compared: u64,
     /// How often each refusal was met; 0 is the answer.
-    met: [u64; 19],
+    met: [u64; REFUSALS],
     first: Option<(u64, Box<Difference>)>,
 }
 
@@ -55,9 +64,9 @@ fn compare_all(library: &dyn Library, stream: usize, cases: u64, seed: u64) -> T
     let subject = &SUBJECTS[stream];
     let next = AtomicU64::new(0);
     let stop = AtomicBool::new(false);
-    let tally = Mutex::new(Tally { compared: 0, met: [0; 19], first: None });
+    let tally = Mutex::new(Tally { compared: 0, met: [0; REFUSALS], first: None });
     let work = || {
-        let mut met = [0u64; 19];
+        let mut met = [0u64; REFUSALS];
         let mut compared = 0;
         while !stop.load(Ordering::Relaxed) {
             let from = next.fetch_add(CHUNK, Ordering::Relaxed);
