@@ -1,6 +1,7 @@
 /*
  * Times the library, the straightforward C of plain.c and, for learning, FLINT, on the same inputs in one run, and prints a
- * table with the ratios. Nothing is asserted about the times; that all give the same answers is.
+ * table with the ratios. Nothing is asserted about the times; that all give the same answers is, but for the plain walk at
+ * q = 1073741789: it takes seconds, so it is timed once and its answer is not compared.
  */
 #define _POSIX_C_SOURCE 200809L
 #include "cocklejoist.h"

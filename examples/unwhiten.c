@@ -19,7 +19,7 @@ static const uint8_t block[] = {0x5A, 0xC3, 0x00, 0x03, 0x00, 0x0D, 0x53, 0x04, 
 static uint8_t payload[] = {0x3e, 0x81, 0xc7, 0x0b, 0x42, 0x65, 0x0d, 0xd1, 0x26, 0x63, 0xd4,
                             0x87, 0x5c, 0x01, 0x72, 0x10, 0xdd, 0x26, 0x38, 0xb3, 0xdb};
 
-/* Every answer begins with its refusal; nothing else in it means anything unless that is CJ_OK. */
+/* Every answer begins with its refusal; but for a place, nothing else in it means anything unless that is CJ_OK. */
 static void expect_ok(const char *what, uint32_t refusal)
 {
     if (refusal != CJ_OK) {
