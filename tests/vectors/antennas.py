@@ -3,7 +3,7 @@
 records.
 
 antennas.py          prints the expected output
-antennas.py cases    writes the cases (crates/antennas_vectors/stdin)"""
+antennas.py FILE     and writes the cases to FILE (crates/antennas_vectors/stdin)"""
 import random
 
 from cases import data, name, word as four, write

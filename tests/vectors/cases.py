@@ -1,6 +1,7 @@
 """The cases that a program reads from its standard input, in the form of crates/cases, and what it must print for them.
 
-A file here that makes both prints the expected output; with the argument `cases` it writes the cases, crates/NAME_vectors/stdin."""
+A file here that makes both prints the expected output, crates/NAME_vectors/stdout; where it is given the name of a file, it writes the cases
+to that, for crates/NAME_vectors/stdin."""
 import sys
 
 
@@ -40,8 +41,8 @@ def checksum(b):
 
 
 def write(cases, lines, more=0):
-    """How many cases, then they, of which so many at the end are not counted; or the lines."""
-    if sys.argv[1:] == ["cases"]:
-        sys.stdout.buffer.write(word(len(cases) - more) + b"".join(cases))
-    else:
-        print("\n".join(lines))
+    """The lines; and to the file that is named, if one is, how many cases, then they, of which so many at the end are not counted."""
+    if sys.argv[1:]:
+        with open(sys.argv[1], "wb") as file:
+            file.write(word(len(cases) - more) + b"".join(cases))
+    print("\n".join(lines))

@@ -2,7 +2,7 @@
 """Cases for the program learning_vectors and the output expected of it, from the document's sentences alone.
 
 learning.py          prints the expected output
-learning.py cases    writes the cases (crates/learning_vectors/stdin)
+learning.py FILE     and writes the cases to FILE (crates/learning_vectors/stdin)
 
 Short bursts are decided by trying every pair in the written order. Long ones by a reduced basis of all pairs that fit, over big integers, and the
 short combinations of it; both are compared with each other on every burst of up to nine bits before anything is printed."""

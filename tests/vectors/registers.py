@@ -3,7 +3,7 @@
 paper.
 
 registers.py          prints the expected output
-registers.py cases    writes the cases (crates/registers_vectors/stdin)"""
+registers.py FILE     and writes the cases to FILE (crates/registers_vectors/stdin)"""
 import random
 from math import gcd
 

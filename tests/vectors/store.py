@@ -3,7 +3,7 @@
 a list of records.
 
 store.py          prints the expected output
-store.py cases    writes the cases (crates/store_vectors/stdin)"""
+store.py FILE     and writes the cases to FILE (crates/store_vectors/stdin)"""
 import random
 
 from cases import change, checksum, data, name, write

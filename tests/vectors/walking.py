@@ -2,7 +2,7 @@
 """Cases for the program walking_vectors and the output expected of it, from the rules of the register alone.
 
 walking.py          prints the expected output
-walking.py cases    writes the cases (crates/walking_vectors/stdin)
+walking.py FILE     and writes the cases to FILE (crates/walking_vectors/stdin)
 
 A register is stepped by the step rule. Where it comes round within 5,000 steps, lead-in and period are read off the states
 themselves, kept in a table of all that were seen. Where it does not, the lead-in is the first state whose p = y - m·2^r is from -q to 0,

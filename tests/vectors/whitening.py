@@ -3,7 +3,7 @@
 emitted bits, the sum over the taps being made anew at every step.
 
 whitening.py          prints the expected output
-whitening.py cases    writes the cases (crates/whitening_vectors/stdin)"""
+whitening.py FILE     and writes the cases to FILE (crates/whitening_vectors/stdin)"""
 import random
 
 from cases import checksum, data, name, word, write

@@ -1,4 +1,5 @@
 // Printing for programs: what they share. No contract can say what is written; what matters is computed in the libraries.
+ghost use Prim.Native.Nat.{_<_};
 use libc::STDOUT_FILENO;
 
 pub fn text(bytes: &[u8]) {
