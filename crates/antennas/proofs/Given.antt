@@ -19,7 +19,7 @@ use Rattle.bits.proofs.Numbers.{length-digits}
 use Rattle.records.specs.declared.Record.{Record}
 use Rattle.records.specs.declared.Refusal.{Refusal}
 use Rattle.records.specs.declared.Form.the-variants as F
-use Rattle.records.specs.Block.{headerSize, bytesFor, recordBits, blockBytes, payload, Entry, entryOf, parse, formOf}
+use Rattle.records.specs.Block.{bytesFor, recordBits, blockBytes, payload, Entry, entryOf, parse, formOf}
 use Rattle.records.specs.Named.{named}
 use Rattle.records.proofs.Standing.{Stands}
 use Rattle.records.proofs.Blocks.{RecordsOf, done, next, parse-records, form-parts}
@@ -27,7 +27,7 @@ use Rattle.records.proofs.Cond.{yes, no}
 use Rattle.antennas.specs.declared.Seen.{Seen}
 use Rattle.antennas.specs.declared.About.{About}
 use Rattle.antennas.specs.declared.About.the-variants as A
-use Rattle.antennas.specs.Antennas.{IsMeter, Nth, startOf, seenOf, readNumber, readPlace, readCount, readAntenna, readStart, readLength, Asked, found, bad-meter, no-record, Reads, by-first, by-second, neither, Read, partOf}
+use Rattle.antennas.specs.Antennas.{IsMeter, Nth, seenOf, readNumber, readPlace, readCount, readAntenna, readStart, readLength, Asked, found, bad-meter, no-record, Reads, by-first, by-second, neither, Read, partOf}
 use Rattle.antennas.specs.Search.{Sought, sought, fewer}
 use Rattle.antennas.proofs.Ordinals.{nth-cons, nth-none}
 
@@ -101,7 +101,7 @@ module _ {antenna : ℕ} {block : List ℕ} {meter ordinal : ℕ} {x : Seen} (g 
       let n : length (g .entry .bits) ≡ w .of .count =
       ap (λ (e : Entry). length (e .bits)) (sym (w .entry-is)) ∙ length-digits 2 (w .of .count) (num 256 (payload block (w .of .start) (w .of .count))) in
       let c : x .count ≡ w .of .count = ap (λ (y : Seen). y .count) (g .seen) ∙ n in
-      let a : x .start ≡ w .of .start = ap (λ (y : Seen). y .start) (g .seen) ∙ ap (λ (e : Entry). startOf e) (sym (w .entry-is)) ∙ sym (s .starts) in
+      let a : x .start ≡ w .of .start = ap (λ (y : Seen). y .start) (g .seen) ∙ ap (λ (e : Entry). e .start) (sym (w .entry-is)) in
       let l : x .length ≡ bytesFor (x .count) = ap (λ (y : Seen). y .length) (g .seen) ∙ ap (λ (y : Seen). bytesFor (y .count)) (sym (g .seen)) in
       record {
         standing = w;

@@ -19,7 +19,7 @@ use Rattle.bits.specs.Bits.{num, digits}
 use Rattle.records.specs.declared.Refusal.{Refusal}
 use Rattle.records.specs.declared.Refusal.the-variants.{TooLong, ShortHeader, WrongMark, BadMeter, BadCount, RunsPast, SpareBit}
 use Rattle.records.specs.declared.Form.the-variants as F
-use Rattle.records.specs.Block.{headerSize, bytesFor, recordBits, blockBytes, payload, numberOf, placeOf, Entry, entryOf, parse, formOf}
+use Rattle.records.specs.Block.{bytesFor, recordBits, blockBytes, payload, numberOf, placeOf, Entry, entryOf, parse, formOf}
 use Rattle.records.specs.Named.{named, bytesOf, moved}
 use Rattle.records.proofs.Standing.{payload-long}
 use Rattle.records.proofs.Blocks.{form-parts, form-append}
@@ -41,7 +41,7 @@ pub record Holds (block : List ℕ) (meter ordinal count : ℕ) (bytes : List �
   pub nth : Nth ordinal (named meter (parse block .records)) entry
   pub count-is : count ≡ length (entry .bits)
   pub long : length bytes ≡ bytesFor count
-  pub own : bytes ≡ drop headerSize (bytesOf block entry)
+  pub own : bytes ≡ drop (entry .start - entry .at) (bytesOf block entry)
   pub bits : entry .bits ≡ digits 2 count (num 256 bytes)
 
 drop-take : (m n : ℕ) (l : List ℕ) → m ≤ length l → drop m (take (m + n) l) ≡ take n (drop m l)
@@ -54,18 +54,20 @@ module _ {antenna : ℕ} {block : List ℕ} {meter ordinal : ℕ} {x : Seen} (g 
   cut-is : cut ≡ payload block (given-stretch g .standing .of .start) (x .count)
   cut-is = let w = given-stretch g in λ i. take (w .length-is i) (drop (w .start-is i) block)
 
-  -- behind the six bytes of the header, up to the end of the record
-  cut-own : cut ≡ drop headerSize (bytesOf block (g .entry))
+  -- from where the record's bits start, up to its end
+  cut-own : cut ≡ drop (g .entry .start - g .entry .at) (bytesOf block (g .entry))
   cut-own =
       let w = given-stretch g in
       let s = w .standing .stands in
       let at = w .standing .at in
-      let n : w .standing .of .next - at ≡ headerSize + x .length = omega (arith, w .last, w .start-is, s .starts) in
-      let l : headerSize ≤ length (drop at block) = rw length-drop (omega (arith, s .starts, s .ends, s .last)) in
-      sym (ap (λ (e : Entry). drop headerSize (bytesOf block e)) (sym (w .standing .entry-is))
-      ∙ ap (λ (k : ℕ). drop headerSize (take k (drop at block))) n
-      ∙ drop-take headerSize (x .length) (drop at block) l
-      ∙ ap (take (x .length)) (drop-drop headerSize at block ∙ ap (λ (k : ℕ). drop k block) (sym (w .start-is ∙ s .starts))))
+      let head = w .standing .of .start - at in
+      let n : w .standing .of .next - at ≡ head + x .length = omega (arith, w .last, w .start-is, s .starts) in
+      let b : at + head ≡ x .start = omega (arith, w .start-is, s .starts) in
+      let l : head ≤ length (drop at block) = rw length-drop (omega (arith, s .starts, s .ends, s .last)) in
+      sym (ap (λ (e : Entry). drop (e .start - e .at) (bytesOf block e)) (sym (w .standing .entry-is))
+      ∙ ap (λ (k : ℕ). drop head (take k (drop at block))) n
+      ∙ drop-take head (x .length) (drop at block) l
+      ∙ ap (take (x .length)) (drop-drop head at block ∙ ap (λ (k : ℕ). drop k block) b))
 
   given-holds : Holds block meter ordinal (x .count) cut
   given-holds =

@@ -13,7 +13,7 @@ use Rattle.bits.specs.Bits.{num}
 use Rattle.bits.proofs.Numbers.{length-digits}
 use Rattle.records.specs.declared.Record.{Record}
 use Rattle.records.specs.declared.Head.the-variants as H
-use Rattle.records.specs.Block.{headerSize, bytesFor, payload, headAt, Entry, entryOf, Parsed, parse}
+use Rattle.records.specs.Block.{bytesFor, payload, headAt, Entry, entryOf, Parsed, parse}
 use Rattle.records.specs.Named.{named}
 use Rattle.records.proofs.Standing.{Stands, found-stands}
 use Rattle.records.proofs.Walk.{Rest, More, start, more}
@@ -68,7 +68,7 @@ module _ (antenna : ℕ) (s : List ℕ) (meter ordinal left at : ℕ) (k : Seeki
     seen-is =
         let n : r .count ≡ length (entryOf s at r .bits) = sym (length-digits 2 (r .count) (num 256 (payload s (r .start) (r .count)))) in
         let l : r .next - r .start ≡ bytesFor (length (entryOf s at r .bits)) = omega (arith, stands .ends, ap bytesFor n) in
-        λ i. record { count = n i; antenna = antenna; start = stands .starts i; length = l i }
+        λ i. record { count = n i; antenna = antenna; start = r .start; length = l i }
 
     pub seek-hit : r .meter ≡ meter → left ≡ 1
         → Sought antenna (named meter (parse s .records)) ordinal (A.Found (record { count = r .count; antenna = antenna; start = r .start; length = r .next - r .start }))

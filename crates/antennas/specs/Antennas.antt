@@ -2,7 +2,7 @@
 --
 --   IsMeter meter             "meter number .. 1 to 32"
 --   Nth ordinal records e     "an ordinal from 1": e is the first of the records, the second, ..
---   startOf e, seenOf a e     where "the payload bytes of that meter's record" begin, and what is told of that record at antenna a
+--   seenOf a e                what is told of a record at antenna a: where "the payload bytes of that meter's record" begin, and how many they are
 --   readNumber .. readLength  the number and the values of each case of `About`; what an answer lacks is 0
 --   Asked a block meter ordinal r ..   the answer r, and its numbers, where this block is the one that is used
 --   Reads first second meter ordinal r ..   the answer r, and its numbers: refusal, place, count, antenna, start, length
@@ -16,7 +16,7 @@ use mathlib.Core.Logic.{_⊎_}
 use mathlib.Core.List.{List, [], _∷_}
 use lib.ListN.{length, take, drop}
 use lib.Dec.{eqb}
-use Rattle.records.specs.Block.{headerSize, meters, bytesFor, numberOf, placeOf, Entry, parse, formOf}
+use Rattle.records.specs.Block.{meters, bytesFor, numberOf, placeOf, Entry, parse, formOf}
 use Rattle.records.specs.Named.{named}
 use Rattle.records.specs.declared.Refusal.{Refusal}
 use Rattle.records.specs.declared.Form.the-variants as F
@@ -31,12 +31,8 @@ pub data Nth : ℕ → List Entry → Entry → Type 0 where
   here : {e : Entry} {es : List Entry} → Nth 1 (e ∷ es) e
   later : {n : ℕ} {d e : Entry} {es : List Entry} → Nth n es e → Nth (suc n) (d ∷ es) e
 
--- a record's bits stand behind its header
-abbrev pub startOf : Entry → ℕ
-startOf e = e .at + headerSize
-
 abbrev pub seenOf : ℕ → Entry → Seen
-seenOf antenna e = record { count = length (e .bits); antenna = antenna; start = startOf e; length = bytesFor (length (e .bits)) }
+seenOf antenna e = record { count = length (e .bits); antenna = antenna; start = e .start; length = bytesFor (length (e .bits)) }
 
 abbrev pub readNumber : About → ℕ
 readNumber (A.Found x) = 0
@@ -77,7 +73,7 @@ readLength A.NoRecord = 0
 -- "we name a meter and an ordinal from 1"; "14 for the asked meter, then new 18 if the block used has no such record or the ordinal is 0"
 pub data Asked (antenna : ℕ) (block : List ℕ) (meter ordinal : ℕ) : About → ℕ → ℕ → ℕ → ℕ → ℕ → ℕ → Type 0 where
   found : {e : Entry} → IsMeter meter → Nth ordinal (named meter (parse block .records)) e
-      → Asked antenna block meter ordinal (A.Found (seenOf antenna e)) 0 0 (length (e .bits)) antenna (startOf e) (bytesFor (length (e .bits)))
+      → Asked antenna block meter ordinal (A.Found (seenOf antenna e)) 0 0 (length (e .bits)) antenna (e .start) (bytesFor (length (e .bits)))
   bad-meter : (IsMeter meter → ⊥) → Asked antenna block meter ordinal A.BadMeter 14 0 0 0 0 0
   no-record : IsMeter meter → (length (named meter (parse block .records)) < ordinal) ⊎ (ordinal ≡ 0) → Asked antenna block meter ordinal A.NoRecord 18 0 0 0 0 0
 

@@ -127,15 +127,16 @@ zero-plus : (n : ℕ) → 0 + n ≡ n
 zero-plus n = omega arith
 
 pub record-alone : (block : List ℕ) (at : ℕ) (r : Record) → Stands block at r
-    → parse (bytesOf block (entryOf block at r)) ≡ record { records = record { at = 0; next = r .next - at; meter = r .meter; bits = entryOf block at r .bits } ∷ []; form = F.Sound }
+    → parse (bytesOf block (entryOf block at r)) ≡ record { records = record { at = 0; start = r .start - at; next = r .next - at; meter = r .meter; bits = entryOf block at r .bits } ∷ []; form = F.Sound }
 record-alone block at r s =
     let n = r .next - at in
     let x = take n (drop at block) in
     let l : length x ≡ n = length-take-le n (drop at block) (rw length-drop (omega (arith, s .last))) in
     let long : 0 + n ≤ length x = omega arith in
     let same = own-byte block at n in
+    let own-start : 0 + headerSize ≡ r .start - at = omega (arith, s .starts) in
     alone x (placed block at r s x 0 long same) (stands-where block at r s x 0 long same) (zero-plus n ∙ sym l)
-    ∙ λ i. record { records = record { at = 0; next = zero-plus n i; meter = r .meter; bits = bits-where block at r s x 0 long same i } ∷ []; form = F.Sound }
+    ∙ λ i. record { records = record { at = 0; start = own-start i; next = zero-plus n i; meter = r .meter; bits = bits-where block at r s x 0 long same i } ∷ []; form = F.Sound }
 
 -- the bits of the records that some bytes parse to
 abbrev ownBits : List ℕ → List ℕ
@@ -171,14 +172,15 @@ module _ (s t : List ℕ) (n : ℕ) (long : n + length s ≤ length t) (same : (
       let p = placed s at r st t (n + at) (m .0) (m .1) in
       let w = stands-where s at r st t (n + at) (m .0) (m .1) in
       let q : n + at + (r .next - at) ≡ n + r .next = omega (arith, st .starts, st .ends) in
+      let b : n + at + headerSize ≡ n + r .start = omega (arith, st .starts) in
       let later : RecordsOf t (p .next) (map (moved n) gs ++ fs) = subst (λ (x : ℕ). RecordsOf t x (map (moved n) gs ++ fs)) (sym q) (records-inside (r .next) gs fs h k) in
       subst (λ (e : Entry). RecordsOf t (n + at) (e ∷ (map (moved n) gs ++ fs)))
-      (λ i. record { at = n + at; next = q i; meter = r .meter; bits = bits-where s at r st t (n + at) (m .0) (m .1) i })
+      (λ i. record { at = n + at; start = b i; next = q i; meter = r .meter; bits = bits-where s at r st t (n + at) (m .0) (m .1) i })
       (next p w later)
 
 moved-none : (es : List Entry) → map (moved 0) es ≡ es
 moved-none [] = refl
-moved-none (e ∷ es) = λ i. record { at = zero-plus (e .at) i; next = zero-plus (e .next) i; meter = e .meter; bits = e .bits } ∷ moved-none es i
+moved-none (e ∷ es) = λ i. record { at = zero-plus (e .at) i; start = zero-plus (e .start) i; next = zero-plus (e .next) i; meter = e .meter; bits = e .bits } ∷ moved-none es i
 
 module _ (a b : List ℕ) where
   joined : (es fs : List Entry) → RecordsOf a 0 es → RecordsOf b 0 fs → RecordsOf (a ++ b) 0 (es ++ map (moved (length a)) fs)

@@ -7,7 +7,7 @@
 --   payload block start count    the bytes that hold a record's bits
 --   numberOf x, placeOf x        the number of a refusal, and its place: "the first byte of the offending record, or 0 for 10 and 11"
 --   judged, headAt block at      the record at a position, or its refusal: "each 12 (short header), 13, 14, 15, 12 (bits past end), 16"
---   Entry, entryOf               a record as the store sees it: where it begins and ends, its meter and its bits
+--   Entry, entryOf               a record as its readers see it: where it begins, where its bits start, where the next record begins, its meter and its bits
 --   parse block                  "records end to end", up to the end of the block or the first refusal
 --   formOf block                 "11, then records in order"
 use Prim.Native.Nat.{ℕ, zero, suc, _+_, _-_, _*_, _/_, _^_}
@@ -94,13 +94,14 @@ headAt block at =
 
 pub record Entry : Type 0 where
   pub at : ℕ
+  pub start : ℕ
   pub next : ℕ
   pub meter : ℕ
   pub bits : List ℕ
 
 abbrev pub entryOf : List ℕ → ℕ → Record → Entry
 entryOf block at r =
-    record { at = at; next = r .next; meter = r .meter; bits = digits 2 (r .count) (num 256 (payload block (r .start) (r .count))) }
+    record { at = at; start = r .start; next = r .next; meter = r .meter; bits = digits 2 (r .count) (num 256 (payload block (r .start) (r .count))) }
 
 -- the records of a block up to its end or the first refusal, and which of the two it was
 pub record Parsed : Type 0 where

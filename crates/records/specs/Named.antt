@@ -31,4 +31,4 @@ counts [] = 0
 counts (e ∷ es) = length (e .bits) + counts es
 
 abbrev pub moved : ℕ → Entry → Entry
-moved n e = record { at = n + e .at; next = n + e .next; meter = e .meter; bits = e .bits }
+moved n e = record { at = n + e .at; start = n + e .start; next = n + e .next; meter = e .meter; bits = e .bits }

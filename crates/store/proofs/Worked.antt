@@ -22,7 +22,7 @@ abbrev pub listing : List ℕ
 listing = 90 ∷ 195 ∷ 0 ∷ 3 ∷ 0 ∷ 13 ∷ 83 ∷ 4 ∷ 90 ∷ 195 ∷ 0 ∷ 7 ∷ 0 ∷ 3 ∷ 5 ∷ []
 
 pub listing-parse : parse listing ≡ record {
-  records = record { at = 0; next = 8; meter = 3; bits = 1 ∷ 1 ∷ 0 ∷ 0 ∷ 1 ∷ 0 ∷ 1 ∷ 0 ∷ 0 ∷ 0 ∷ 1 ∷ 0 ∷ 0 ∷ [] } ∷ record { at = 8; next = 15; meter = 7; bits = 1 ∷ 0 ∷ 1 ∷ [] } ∷ [];
+  records = record { at = 0; start = 6; next = 8; meter = 3; bits = 1 ∷ 1 ∷ 0 ∷ 0 ∷ 1 ∷ 0 ∷ 1 ∷ 0 ∷ 0 ∷ 0 ∷ 1 ∷ 0 ∷ 0 ∷ [] } ∷ record { at = 8; start = 14; next = 15; meter = 7; bits = 1 ∷ 0 ∷ 1 ∷ [] } ∷ [];
   form = F.Sound;
 }
 unfolding parse parseFrom headAt judged num digits
