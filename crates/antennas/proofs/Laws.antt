@@ -23,6 +23,7 @@ use Rattle.records.specs.Block.{bytesFor, recordBits, blockBytes, payload, numb
 use Rattle.records.specs.Named.{named, bytesOf, moved}
 use Rattle.records.proofs.Standing.{payload-long}
 use Rattle.records.proofs.Blocks.{form-parts, form-append}
+use Rattle.records.proofs.Positions.{form-placed}
 use Rattle.records.proofs.Brought.{named-append}
 use Rattle.records.proofs.Cond.{yes, no}
 use Rattle.antennas.specs.declared.Seen.{Seen}
@@ -32,7 +33,6 @@ use Rattle.antennas.specs.Antennas.{Nth, seenOf, readNumber, readPlace, 
 use Rattle.antennas.proofs.Ordinals.{nth-append}
 use Rattle.antennas.proofs.Given.{Given, GivenIn, read-given, asked-given, given-antenna, given-stretch, given-inside}
 use Rattle.antennas.proofs.Unique.{reads-numbers, read-about-unique}
-use Rattle.antennas.proofs.Places.{refused-place}
 
 -- ---- the record that a part holds
 pub record Holds (block : List ℕ) (meter ordinal count : ℕ) (bytes : List ℕ) : Type 0 where
@@ -196,7 +196,7 @@ module _ (first second : List ℕ) (meter ordinal : ℕ) where
 
   pub read-within : (r : About) → Read first second meter ordinal r → Within first second r
   read-within (A.Found x) h = found-within x (read-given first second meter ordinal x h)
-  read-within (A.Malformed x) h = refused-within (A.Malformed x) refl refl refl refl (refused-place first x (first-refused h x refl))
+  read-within (A.Malformed x) h = refused-within (A.Malformed x) refl refl refl refl (form-placed first x (first-refused h x refl))
   read-within A.BadMeter h = refused-within A.BadMeter refl refl refl refl (omega arith, omega arith)
   read-within A.NoRecord h = refused-within A.NoRecord refl refl refl refl (omega arith, omega arith)
 

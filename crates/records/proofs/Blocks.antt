@@ -165,15 +165,15 @@ module _ (s t : List ℕ) (n : ℕ) (long : n + length s ≤ length t) (same : (
   moved-stands : (at : ℕ) (r : Record) (st : Stands s at r) → (l : n + at + (r .next - at) ≤ length t) × ((i : ℕ) → i < r .next - at → getD t (n + at + i) 0 ≡ getD s (at + i) 0)
   moved-stands at r st = (omega (arith, st .starts, st .ends, st .last), λ i h. ap (λ (k : ℕ). getD t k 0) (omega arith) ∙ same (at + i) (omega (arith, st .last)))
 
-  pub records-inside : (at : ℕ) (es fs : List Entry) → RecordsOf s at es → RecordsOf t (n + length s) fs → RecordsOf t (n + at) (map (moved n) es ++ fs)
-  records-inside at es fs (done e) k = subst (λ (x : ℕ). RecordsOf t (n + x) fs) (sym e) k
-  records-inside at es fs (next {es = gs} r st h) k =
+  pub records-moved : (at : ℕ) (es fs : List Entry) → RecordsOf s at es → RecordsOf t (n + length s) fs → RecordsOf t (n + at) (map (moved n) es ++ fs)
+  records-moved at es fs (done e) k = subst (λ (x : ℕ). RecordsOf t (n + x) fs) (sym e) k
+  records-moved at es fs (next {es = gs} r st h) k =
       let m = moved-stands at r st in
       let p = placed s at r st t (n + at) (m .0) (m .1) in
       let w = stands-where s at r st t (n + at) (m .0) (m .1) in
       let q : n + at + (r .next - at) ≡ n + r .next = omega (arith, st .starts, st .ends) in
       let b : n + at + headerSize ≡ n + r .start = omega (arith, st .starts) in
-      let later : RecordsOf t (p .next) (map (moved n) gs ++ fs) = subst (λ (x : ℕ). RecordsOf t x (map (moved n) gs ++ fs)) (sym q) (records-inside (r .next) gs fs h k) in
+      let later : RecordsOf t (p .next) (map (moved n) gs ++ fs) = subst (λ (x : ℕ). RecordsOf t x (map (moved n) gs ++ fs)) (sym q) (records-moved (r .next) gs fs h k) in
       subst (λ (e : Entry). RecordsOf t (n + at) (e ∷ (map (moved n) gs ++ fs)))
       (λ i. record { at = n + at; start = b i; next = q i; meter = r .meter; bits = bits-where s at r st t (n + at) (m .0) (m .1) i })
       (next p w later)
@@ -187,9 +187,9 @@ module _ (a b : List ℕ) where
   joined es fs h k =
       let l = length-append a b in
       let second : RecordsOf (a ++ b) (length a + 0) (map (moved (length a)) fs ++ []) =
-      records-inside b (a ++ b) (length a) (omega arith) (λ i _. getD-append-add a b i 0) 0 fs [] k (done (sym l)) in
+      records-moved b (a ++ b) (length a) (omega arith) (λ i _. getD-append-add a b i 0) 0 fs [] k (done (sym l)) in
       let first : RecordsOf (a ++ b) (0 + 0) (map (moved 0) es ++ map (moved (length a)) fs) =
-      records-inside a (a ++ b) 0 (omega arith) (λ i j. ap (λ (x : ℕ). getD (a ++ b) x 0) (zero-plus i) ∙ List·getD-append a b 0 i j) 0 es (map (moved (length a)) fs) h
+      records-moved a (a ++ b) 0 (omega arith) (λ i j. ap (λ (x : ℕ). getD (a ++ b) x 0) (zero-plus i) ∙ List·getD-append a b 0 i j) 0 es (map (moved (length a)) fs) h
       (subst (λ (x : ℕ). RecordsOf (a ++ b) x (map (moved (length a)) fs)) (add-zero (length a) ∙ sym (zero-plus (length a))) (subst (RecordsOf (a ++ b) (length a + 0)) (append-nil (map (moved (length a)) fs)) second)) in
       subst (λ (xs : List Entry). RecordsOf (a ++ b) 0 (xs ++ map (moved (length a)) fs)) (moved-none es) first
 

@@ -1,11 +1,10 @@
 -- Where the records and the refusals of a block are: inside it.
 --
 --   Starts n entries   each of the entries begins before n
---   Placed n form      the place of a refused form is at most n
 --   records-inside     every record of a block begins inside it
---   form-placed        the place that the form of a block returns is at most 16,384
+--   form-placed        the place of a refused block lies inside it, and is at most 16,384; it is 0 for a block that is too long
 use Prim.Native.Nat.{ℕ, zero, suc, _+_, _-_, _^_, _≤_, _<_}
-use mathlib.Core.Path.{_≡_, refl, subst}
+use mathlib.Core.Path.{_≡_, refl, ap, subst}
 use mathlib.Core.Bool.{Bool, true, false, cond}
 use mathlib.Core.List.{List, [], _∷_}
 use native.Mathlib.Omega.{arith}
@@ -26,10 +25,6 @@ use Rattle.records.proofs.Standing.{found-stands}
 pub data Starts (n : ℕ) : List Entry → Type 0 where
   none : Starts n []
   one : {e : Entry} {es : List Entry} → e .at < n → Starts n es → Starts n (e ∷ es)
-
-abbrev pub Placed : ℕ → Form → Type 0
-Placed n F.Sound = Unit {0}
-Placed n (F.Refused x) = placeOf x ≤ n
 
 -- ---- a refusal at a position has that position for its place
 data From (at : ℕ) : Head → Type 0 where
@@ -71,7 +66,11 @@ pub records-inside : (s : List ℕ) → Starts (length s) (parse s .records)
 unfolding parse
 records-inside s = starts-from (length s + 1) s 0
 
--- ---- the form
+-- ---- the form: the place of a refused one is at most n
+abbrev Placed : ℕ → Form → Type 0
+Placed n F.Sound = Unit {0}
+Placed n (F.Refused x) = placeOf x ≤ n
+
 placed-step : (s : List ℕ) (at : ℕ) (go : ℕ → Parsed) → at ≤ length s → ((n : ℕ) → n ≤ length s → Placed (length s) (go n .form)) → (h : Head) → headAt s at ≡ h
     → Placed (length s) (onHead h s at go .form)
 placed-step s at go l k (H.Found r) e = k (r .next) (found-stands s at r e .last)
@@ -83,14 +82,13 @@ unfolding parseFrom
 placed-from zero s at l = tt
 placed-from (suc f) s at l = placed-step s at (parseFrom f s) l (λ n h. placed-from f s n h) (headAt s at) refl
 
-placed-most : (n m : ℕ) (f : Form) → n ≤ m → Placed n f → Placed m f
-placed-most n m F.Sound l p = tt
-placed-most n m (F.Refused x) l p = omega arith
+refused-is : (x y : Refusal) → F.Refused x ≡ F.Refused y → placeOf x ≡ placeOf y
+refused-is x y e = let q : x ≡ y = cc in ap placeOf q
 
-by-length : (b : List ℕ) (t : Bool) → ltb blockBytes (length b) ≡ t → Placed (length b) (parse b .form) → Placed blockBytes (cond t (F.Refused TooLong) (parse b .form))
-by-length b true e p = omega arith
-by-length b false e p = placed-most (length b) blockBytes (parse b .form) (ltb-false _ _ e) p
-
-pub form-placed : (b : List ℕ) → Placed blockBytes (formOf b)
+pub form-placed : (b : List ℕ) (x : Refusal) → formOf b ≡ F.Refused x → (placeOf x ≤ length b) × (placeOf x ≤ blockBytes)
 unfolding formOf parse
-form-placed b = by-length b (ltb blockBytes (length b)) refl (placed-from (length b + 1) b 0 (omega arith))
+form-placed b x = go (ltb blockBytes (length b)) refl
+  where
+    go : (t : Bool) → ltb blockBytes (length b) ≡ t → cond t (F.Refused TooLong) (parseFrom (length b + 1) b 0 .form) ≡ F.Refused x → (placeOf x ≤ length b) × (placeOf x ≤ blockBytes)
+    go true p e = let q = refused-is TooLong x e in (omega (arith, q), omega (arith, q))
+    go false p e = let h = subst (Placed (length b)) e (placed-from (length b + 1) b 0 (omega arith)) in (h, omega (arith, h, ltb-false blockBytes (length b) p))

@@ -12,7 +12,7 @@ use lib.Dec.{ltb}
 use Rattle.records.specs.Block.{blockBytes, Entry, parse, formOf}
 use Rattle.records.specs.declared.Form.{Form}
 use Rattle.records.specs.declared.Form.the-variants as F
-use Rattle.records.proofs.Positions.{Starts, none, one, Placed, records-inside, form-placed}
+use Rattle.records.proofs.Positions.{Starts, none, one, records-inside, form-placed}
 use Rattle.records.proofs.Blocks.{form-parts}
 use Rattle.room.specs.declared.Room.{Room}
 use Rattle.room.specs.declared.Room.the-variants as R
@@ -43,7 +43,7 @@ module _ (s b : List ℕ) where
 
   place-at : (t : Bool) (f : Form) (r : Room) → isStore s ≡ t → formOf b ≡ f → roomOf (bitsOf s) (parse b .records) ≡ r → Within (takeOf s b .answer)
   place-at false f r e p q = subst Within (bad-store s b e .0) (omega arith)
-  place-at true (F.Refused x) r e p q = subst Within (bad-form s b x e p .0) (subst (Placed blockBytes) p (form-placed b))
+  place-at true (F.Refused x) r e p q = subst Within (bad-form s b x e p .0) (form-placed b x p .1)
   place-at true F.Sound (R.Full n) e p q =
       subst Within (no-room s b n e p q .0) (omega (arith, full-inside (length b) (bitsOf s) (parse b .records) (records-inside b) n q, form-parts b p .0))
   place-at true F.Sound R.Fits e p q = subst Within (taken s b (encodeAll (appendAll (bitsOf s) (parse b .records))) e p q refl .0) (omega arith)
