@@ -8,7 +8,7 @@ use lib.Dec.{T, leb}
 use lib.IntN.{ℤ, pos, negsuc, natAbs}
 use lib.Signed.{leZ, ltZ}
 use Rattle.fractions.specs.Pairs.{Inside, limit}
-use Rattle.fractions.specs.Answers.{Decides}
+use Rattle.integers.specs.Numbers.{Decides}
 
 pub too-low : (p : ℤ) → ltZ p (negsuc 1073741822) ≡ true → limit < natAbs p
 too-low (pos n) e = absurd (subst T (sym e) tt)
@@ -21,10 +21,3 @@ inside-tested (pos n) q o m l = go (leb n limit) (leb-true n limit) (leb-false n
     go true f g = record { odd = o; some = omega arith; q-most = m; p-most = f refl }
     go false f g = λ i. omega (arith, i .p-most, g refl)
 inside-tested (negsuc n) q o m l = record { odd = o; some = omega arith; q-most = m; p-most = omega (arith, ltb-false 1073741822 n l) }
-
-pub decides-le : (a b : ℕ) → Decides (a ≤ b) (leb a b)
-decides-le a b = go (leb a b) (leb-true a b) (leb-false a b)
-  where
-    go : (t : Bool) → (t ≡ true → a ≤ b) → (t ≡ false → b < a) → Decides (a ≤ b) t
-    go true f g = f refl
-    go false f g = λ h. omega (arith, g refl)

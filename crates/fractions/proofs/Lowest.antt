@@ -19,12 +19,13 @@ use lib.IntN.{ℤ, pos, negsuc, negℤ, natAbs, _*ℤ_}
 use lib.Signed.{ltZ}
 use lib.Dec.{T}
 use borrow.Author.Tests.{ltb-true}
-use Rattle.integers.specs.Numbers.{Coprime, IsGcd}
-use Rattle.integers.proofs.Parts.{natAbs-*, natAbs-neg, pos-*}
+use Rattle.integers.specs.Numbers.{Coprime, IsGcd, signedBy}
+use Rattle.integers.proofs.Parts.{natAbs-*, pos-*}
+use Rattle.integers.proofs.Sizes.{signed-size}
 use Rattle.integers.proofs.Coprime.{quot, euclid, GcdParts, gcd-parts, lowest}
 use Rattle.integers.proofs.Ring.{neg, _⊗_, ring2, ring3, _≔_}
 use Rattle.fractions.specs.Pairs.{LowestTerms, SameFraction, Lowest, limit, Inside}
-use Rattle.fractions.specs.Inner.{signedBy, Reduced}
+use Rattle.fractions.specs.Inner.{Reduced}
 use Rattle.fractions.proofs.Same.{cancel}
 
 -- z divided by d, where d divides its size
@@ -116,10 +117,6 @@ sign-of (pos n) true e = absurd (let k : n < 0 = ltb-true n 0 e in omega arith)
 sign-of (pos n) false e = refl
 sign-of (negsuc n) true e = refl
 sign-of (negsuc n) false e = absurd (subst T e tt)
-
-pub signed-size : (b : Bool) (n : ℕ) → natAbs (signedBy b n) ≡ n
-signed-size true n = natAbs-neg (pos n)
-signed-size false n = refl
 
 signed-times : (b : Bool) (d k c : ℕ) → signedBy b (d * k) *ℤ pos c ≡ signedBy b k *ℤ pos (d * c)
 signed-times true d k c = ring3 (λ d k c. neg (d ⊗ k) ⊗ c ≔ neg k ⊗ (d ⊗ c)) tt (pos d) (pos k) (pos c)

@@ -2,17 +2,11 @@
 --
 --   numberOf r, wordOf r      the number and the values of each case of `Output`
 --   Outputs p q number word   "the whole number u below 2^64 with u·q - p divisible by 2^64"; refusal 4: "pair .. outside its limits"
---   Decides P b               b says whether P holds
-use mathlib.Core.Bool.{Bool, true, false}
 use Prim.Native.Nat.{ℕ, _^_, _<_}
 use lib.IntN.{ℤ}
 use Rattle.fractions.specs.Pairs.{Inside, Fits}
 use Rattle.fractions.specs.declared.Output.{Output}
 use Rattle.fractions.specs.declared.Output.the-variants.{Word, Outside}
-
-abbrev pub Decides : Type 0 → Bool → Type 0
-Decides P true = P
-Decides P false = P → ⊥
 
 abbrev pub numberOf : Output → ℕ
 numberOf (Word u) = 0

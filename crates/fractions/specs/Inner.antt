@@ -1,22 +1,16 @@
 -- Words of private functions; no public contract cites them.
 --
 --   Residue p r         r is p modulo 2^64
---   signedBy minus n    -n where minus is true, else n
 --   Reduced p q p' q'   p'/q' is p/q in lowest terms, and neither number has grown
 use mathlib.Core.Path.{_≡_}
-use mathlib.Core.Bool.{Bool, true, false}
 use Prim.Native.Nat.{ℕ, _^_, _<_, _≤_}
-use lib.IntN.{ℤ, pos, negℤ, natAbs, _-ℤ_, _*ℤ_}
+use lib.IntN.{ℤ, pos, natAbs, _-ℤ_, _*ℤ_}
 use Rattle.fractions.specs.Pairs.{Lowest}
 
 pub record Residue (p : ℤ) (r : ℕ) : Type 0 where
   pub low : r < 2 ^ 64
   pub times : ℤ
   pub is : pos r -ℤ p ≡ pos (2 ^ 64) *ℤ times
-
-abbrev pub signedBy : Bool → ℕ → ℤ
-signedBy true n = negℤ (pos n)
-signedBy false n = pos n
 
 pub record Reduced (p : ℤ) (q : ℕ) (p' : ℤ) (q' : ℕ) : Type 0 where
   pub lowest : Lowest p q p' q'

@@ -1,10 +1,10 @@
 // Fractions p/q: the limits, lowest terms, and the output word. The contracts cite Pairs, Expansion and Answers of specs/.
-ghost use mathlib.Core.Path.{_≡_};
 ghost use Prim.Native.Nat.{_^_, _<_, _≤_};
 ghost use lib.IntN.{natAbs};
+ghost use Rattle.integers.specs.Numbers.{Decides};
 ghost use Rattle.fractions.specs.Pairs.{Inside};
-ghost use Rattle.fractions.specs.Answers.{Decides, Outputs, numberOf, wordOf};
-ghost use Rattle.fractions.specs.Inner.{Residue, signedBy, Reduced};
+ghost use Rattle.fractions.specs.Answers.{Outputs, numberOf, wordOf};
+ghost use Rattle.fractions.specs.Inner.{Residue, Reduced};
 
 // The largest q, and the largest |p|, inside the limits.
 pub const LIMIT: u32 = 1073741823;
@@ -65,17 +65,6 @@ pub fn output_word(p: i32, q: u32) -> Output
     }
 }
 
-fn with_sign(size: u64, minus: bool) -> i64
-    requires { ⌜ size < 2 ^ 62 ⌝ }
-    ensures { λ r. ⌜ r ≡ signedBy minus size ⌝ }
-{
-    if minus {
-        0 - (size as i64)
-    } else {
-        size as i64
-    }
-}
-
 // p/q in lowest terms; zero is (0, 1). Not an entry point: its callers in other crates show that q is not 0 and p fits.
 pub fn lowest_terms(p: i64, q: u64) -> Ratio
     requires { ⌜ (1 ≤ q) × (natAbs p < 2 ^ 62) ⌝ }
@@ -84,7 +73,7 @@ pub fn lowest_terms(p: i64, q: u64) -> Ratio
     let size = integers::magnitude(p);
     let d = integers::gcd(size, q);
     Ratio {
-        p: with_sign(size / d, p < 0),
+        p: integers::signed::with_sign(size / d, p < 0),
         q: q / d,
     }
 }

@@ -4,6 +4,7 @@ pub mod Ring
 pub mod Order
 pub mod Parity
 pub mod Sizes
+pub mod Tests
 pub mod Log2
 pub mod Finite
 pub mod Coprime

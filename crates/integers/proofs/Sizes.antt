@@ -13,7 +13,7 @@ use mir.Val.{SFits, toZ, ofZ}
 use mir.ValLaws.{toZ-ofZ}
 use borrow.Author.Needs.{sfits-of}
 use borrow.Author.Tests.{eqb-true, eqb-false}
-use Rattle.integers.specs.Numbers.{Parity, oddZ, halfZ}
+use Rattle.integers.specs.Numbers.{Parity, signedBy, oddZ, halfZ}
 use Rattle.integers.proofs.Parts.{natAbs-+, natAbs-*, natAbs-neg}
 
 -- ---- by natAbs
@@ -30,6 +30,10 @@ back32 z h = toZ-ofZ w32 z (record { sfits = omega (arith, mag-le z) })
 
 pub back64 : (z : ℤ) → natAbs z < 2 ^ 63 → toZ w64 (ofZ w64 z) ≡ z
 back64 z h = toZ-ofZ w64 z (fits64 z h)
+
+pub signed-size : (minus : Bool) (n : ℕ) → natAbs (signedBy minus n) ≡ n
+signed-size true n = natAbs-neg (pos n)
+signed-size false n = refl
 
 -- what the sizes of a sum, a difference and a product are, at bounds
 pub abs-+ : (x y : ℤ) {a b : ℕ} → natAbs x ≤ a → natAbs y ≤ b → natAbs (x +ℤ y) ≤ a + b

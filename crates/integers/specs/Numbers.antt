@@ -1,7 +1,9 @@
--- Words on numbers.
+-- Words on numbers, and on tests of them.
 --
 --   Odd z, Even z     |z| leaves 1, 0 on division by 2
+--   Decides P b       b says whether P holds
 --   Parity z b        b says whether z is odd
+--   signedBy minus n  -n where minus is true, else n
 --   oddZ z            z modulo 2, 0 or 1             ("The new cell a_r is 0 or 1 and equals s modulo 2")
 --   halfZ z           z / 2, rounded down            ("the new memory is s/2 rounded toward minus infinity")
 --   log2 n            floor(log2 n), for n at least 1  ("r = floor(log2(q+1))")
@@ -13,7 +15,7 @@ use mathlib.Core.Path.{_≡_}
 use mathlib.Core.Bool.{Bool, true, false}
 use Prim.Native.Nat.{ℕ, zero, suc, _-_, _/_, _%_, _≤_}
 use lib.Dec.{ltb}
-use lib.IntN.{ℤ, pos, negsuc, natAbs}
+use lib.IntN.{ℤ, pos, negsuc, negℤ, natAbs}
 use lib.Signed.{shrZ}
 
 abbrev pub Odd : ℤ → Type 0
@@ -22,9 +24,17 @@ Odd z = natAbs z % 2 ≡ 1
 abbrev pub Even : ℤ → Type 0
 Even z = natAbs z % 2 ≡ 0
 
+abbrev pub Decides : Type 0 → Bool → Type 0
+Decides P true = P
+Decides P false = P → ⊥
+
 abbrev pub Parity : ℤ → Bool → Type 0
 Parity z true = Odd z
 Parity z false = Even z
+
+abbrev pub signedBy : Bool → ℕ → ℤ
+signedBy true n = negℤ (pos n)
+signedBy false n = pos n
 
 -- negsuc n is -(n + 1)
 abbrev pub oddZ : ℤ → ℕ

@@ -7,10 +7,11 @@ use Prim.Native.Nat.{ℕ, zero, suc, _+_, _*_, _%_, _^_, _≤_, _<_, max}
 use native.Mathlib.Omega.{arith}
 use native.Mathlib.Nat.{mul-mod-right}
 use native.Mathlib.Decide.{decLe}
-use lib.Dec.{T, eqb, leb}
+use lib.Dec.{T}
 use lib.IntN.{ℤ, pos, negsuc, negℤ, natAbs, _-ℤ_, _*ℤ_}
 use lib.Signed.{ltZ}
-use borrow.Author.Tests.{ltb-true, eqb-true, eqb-false, leb-true, leb-false}
+use borrow.Author.Tests.{ltb-true}
+use Rattle.integers.specs.Numbers.{Decides, Divides}
 use Rattle.integers.proofs.Parts.{natAbs-neg, natAbs-*}
 use Rattle.integers.proofs.Order.{eq-by, z-sub, z-*, z-+}
 use Rattle.integers.proofs.Ring.{lit, #, neg, _⊕_, _⊗_, _⊖_, ring1, ring4, ring6, _≔_}
@@ -22,26 +23,9 @@ use Rattle.reduction.specs.Reduced.{big}
 use Rattle.reduction.proofs.Vectors.{fit-to}
 use Rattle.reduction.proofs.Keys.{no-larger}
 use Rattle.reduction.proofs.States.{At, least, least-before}
-use Rattle.learning.specs.Steps.{Held, Twofold, flip, Finished}
+use Rattle.learning.specs.Steps.{flip, Finished}
 
 -- ---- what the functions of the end ask
-pub held-of : (p q : ℤ) (m : ℕ) → m ≡ max (natAbs p) (natAbs q) → Held p q (leb m limit)
-held-of p q m e = go (leb m limit) refl
-  where
-    go : (t : Bool) → leb m limit ≡ t → Held p q t
-    go true h = let l = leb-true m limit h in (omega arith, omega arith)
-    go false h = let l = leb-false m limit h in omega arith
-
-pub twofold-of : (n a m : ℕ) → m ≡ 2 ^ n → Twofold n a (eqb ((2 * a) % m) 0)
-twofold-of n a m e = go (eqb ((2 * a) % m) 0) refl
-  where
-    same : (2 * a) % m ≡ (2 * a) % 2 ^ n
-    same = ap (λ (k : ℕ). (2 * a) % k) e
-
-    go : (t : Bool) → eqb ((2 * a) % m) 0 ≡ t → Twofold n a t
-    go true h = sym same ∙ eqb-true ((2 * a) % m) 0 h
-    go false h = λ k. eqb-false ((2 * a) % m) 0 h (same ∙ k)
-
 pub flip-neg : (p q : ℤ) → ltZ q (pos 0) ≡ true → pos 0 -ℤ p ≡ flip p q
 flip-neg p (pos n) e = absurd (not-lt-zero n (ltb-true n 0 e))
   where
@@ -57,12 +41,12 @@ pub abs-flip : (p q : ℤ) → natAbs (flip p q) ≡ natAbs p
 abs-flip p (pos n) = refl
 abs-flip p (negsuc n) = natAbs-neg p
 
-module _ (n : ℕ) (p q p' : ℤ) (q' a : ℕ) (t : Bool) (d : Twofold n a t) (ea : a ≡ natAbs p) (eq : q' ≡ natAbs q) where
+module _ (n : ℕ) (p q p' : ℤ) (q' a : ℕ) (t : Bool) (d : Decides (Divides (2 ^ n) (2 * a)) t) (ea : a ≡ natAbs p) (eq : q' ≡ natAbs q) where
   pub finished-whole : t ≡ true → p' ≡ pos a → Finished n p q p' q'
   finished-whole e ep = record {
     q-is = eq;
     p-is = ap natAbs ep ∙ ea;
-    side = inr (ap (λ (a : ℕ). (2 * a) % 2 ^ n) (sym ea) ∙ subst (Twofold n a) e d);
+    side = inr (ap (λ (a : ℕ). (2 * a) % 2 ^ n) (sym ea) ∙ subst (Decides (Divides (2 ^ n) (2 * a))) e d);
     sign = inl (ap below ep);
   }
 
@@ -71,11 +55,11 @@ module _ (n : ℕ) (p q p' : ℤ) (q' a : ℕ) (t : Bool) (d : Twofold n a t) (e
     q-is = eq;
     p-is = ap natAbs ep ∙ abs-flip p q;
     side = inl ep;
-    sign = inr (λ k. subst (Twofold n a) e d (ap (λ (a : ℕ). (2 * a) % 2 ^ n) ea ∙ k));
+    sign = inr (λ k. subst (Decides (Divides (2 ^ n) (2 * a))) e d (ap (λ (a : ℕ). (2 * a) % 2 ^ n) ea ∙ k));
   }
 
 -- ---- none inside: the least is too large
-pub none-large : (bytes : List ℕ) (n : ℕ) {f g : Vect} → At bytes n f g → limit < max (natAbs (g .p)) (natAbs (g .q)) → NoneFits n (value bytes n)
+pub none-large : (bytes : List ℕ) (n : ℕ) {f g : Vect} → At bytes n f g → (max (natAbs (g .p)) (natAbs (g .q)) ≤ limit → ⊥) → NoneFits n (value bytes n)
 none-large bytes n {f} {g} R h p q i e =
     let hp : natAbs p < big = omega arith in
     let hq : q < big = omega arith in

@@ -14,10 +14,10 @@ use native.Mathlib.Nat.{div-add-mod', mul-le-mul-left}
 use lib.Dec.{T}
 use lib.Pow.{pow-pos}
 use lib.IntN.{ℤ, pos, negsuc, negℤ, natAbs, _+ℤ_, _-ℤ_, _*ℤ_}
-use Rattle.integers.specs.Numbers.{Coprime}
+use Rattle.integers.specs.Numbers.{Coprime, signedBy}
 use Rattle.integers.proofs.Parts.{eq-to, parts-+, parts--, parts-*, natAbs-is, natAbs-*, natAbs-neg, eq-of-sub}
 use Rattle.integers.proofs.Order.{eq-by, z-sub, z-*, z-+}
-use Rattle.integers.proofs.Sizes.{abs--, abs-*}
+use Rattle.integers.proofs.Sizes.{abs--, abs-*, signed-size}
 use Rattle.integers.proofs.Ring.{var, lit, #, neg, _⊕_, _⊗_, _⊖_, ring, ring1, ring2, ring3, ring4, ring6, _≔_, ring11}
 use Rattle.bits.specs.Bits.{value}
 use Rattle.fractions.specs.Pairs.{limit, Inside, Fits, Smallest, NoneFits, SameFraction}
@@ -25,7 +25,7 @@ use Rattle.fractions.proofs.Same.{cancel, fits-same}
 use Rattle.fractions.proofs.Lowest.{odd-left, power-coprime}
 use Rattle.fractions.proofs.Order.{smallest-certified}
 use Rattle.fractions.proofs.Expansion.{fits-digits}
-use Rattle.learning.specs.Steps.{side, Traced, Guess}
+use Rattle.learning.specs.Steps.{Traced, Guess}
 
 -- ---- a turn of Euclid's algorithm
 pub traced-start : (A : ℕ) → Traced A (2 ^ 61) A 0 1 false
@@ -45,9 +45,9 @@ fits-step A T P₀ P₁ P t₀ t₁ z s₀ s₁ h₀ h₁ e = eq-by (z-+ (z-sub 
     (A ∷ T ∷ P₀ ∷ P₁ ∷ P ∷ t₀ ∷ t₁ ∷ z ∷ s₀ ∷ s₁ ∷ []) tt)
 
 -- the remainder, with its sign
-side-step : (minus : Bool) (r₀ r₁ z r : ℕ) → z * r₁ + r ≡ r₀ → side (not minus) r ≡ side (not minus) r₀ +ℤ pos z *ℤ side minus r₁
-side-step true r₀ r₁ z r e = eq-by (z-sub (ap pos e)) (ring4 (λ r₀ r₁ z r. r ≔ r₀ ⊕ z ⊗ neg r₁ ⊕ (z ⊗ r₁ ⊕ r ⊖ r₀)) tt (pos r₀) (pos r₁) (pos z) (pos r))
-side-step false r₀ r₁ z r e = eq-by (z-* (negsuc 0) (z-sub (ap pos e))) (ring4 (λ r₀ r₁ z r. neg r ≔ neg r₀ ⊕ z ⊗ r₁ ⊕ lit (negsuc 0) ⊗ (z ⊗ r₁ ⊕ r ⊖ r₀)) tt (pos r₀) (pos r₁) (pos z) (pos r))
+signed-step : (minus : Bool) (r₀ r₁ z r : ℕ) → z * r₁ + r ≡ r₀ → signedBy (not minus) r ≡ signedBy (not minus) r₀ +ℤ pos z *ℤ signedBy minus r₁
+signed-step true r₀ r₁ z r e = eq-by (z-sub (ap pos e)) (ring4 (λ r₀ r₁ z r. r ≔ r₀ ⊕ z ⊗ neg r₁ ⊕ (z ⊗ r₁ ⊕ r ⊖ r₀)) tt (pos r₀) (pos r₁) (pos z) (pos r))
+signed-step false r₀ r₁ z r e = eq-by (z-* (negsuc 0) (z-sub (ap pos e))) (ring4 (λ r₀ r₁ z r. neg r ≔ neg r₀ ⊕ z ⊗ r₁ ⊕ lit (negsuc 0) ⊗ (z ⊗ r₁ ⊕ r ⊖ r₀)) tt (pos r₀) (pos r₁) (pos z) (pos r))
 
 sum-step : (r₀ r₁ t₀ t₁ z r D : ℕ) → z * r₁ + r ≡ r₀ → t₁ * r₀ + t₀ * r₁ ≡ D → (t₀ + z * t₁) * r₁ + t₁ * r ≡ D
 sum-step r₀ r₁ t₀ t₁ z r D e h = omega (arith, ap (λ (n : ℕ). t₁ * n) e)
@@ -59,11 +59,11 @@ not-not false = refl
 pub traced-step : {A r₀ r₁ t₀ t₁ : ℕ} {minus : Bool} → Traced A r₀ r₁ t₀ t₁ minus → limit < r₁ → Traced A r₁ (r₀ % r₁) t₁ (t₀ + r₀ / r₁ * t₁) (not minus)
 traced-step {A} {r₀} {r₁} {t₀} {t₁} {minus} h l = record {
   sum = sum-step r₀ r₁ t₀ t₁ (r₀ / r₁) (r₀ % r₁) (2 ^ 61) (div-add-mod' r₀ r₁) (h .sum);
-  last = subst (λ (b : Bool). Fits 61 A (side b r₁) t₁) (not-not minus) (h .fits);
+  last = subst (λ (b : Bool). Fits 61 A (signedBy b r₁) t₁) (not-not minus) (h .fits);
   fits = (
     h .last .0 +ℤ pos (r₀ / r₁) *ℤ h .fits .0,
-    fits-step (pos A) (pos (2 ^ 61)) (side (not minus) r₀) (side minus r₁) (side (not minus) (r₀ % r₁)) (pos t₀) (pos t₁) (pos (r₀ / r₁)) (h .last .0) (h .fits .0)
-        (h .last .1) (h .fits .1) (side-step minus r₀ r₁ (r₀ / r₁) (r₀ % r₁) (div-add-mod' r₀ r₁)),
+    fits-step (pos A) (pos (2 ^ 61)) (signedBy (not minus) r₀) (signedBy minus r₁) (signedBy (not minus) (r₀ % r₁)) (pos t₀) (pos t₁) (pos (r₀ / r₁)) (h .last .0) (h .fits .0)
+        (h .last .1) (h .fits .1) (signed-step minus r₀ r₁ (r₀ / r₁) (r₀ % r₁) (div-add-mod' r₀ r₁)),
   );
   large = l;
 }
@@ -159,7 +159,7 @@ turned A T x y y' s h e = eq-by (z-+ (z-* (negsuc 0) (z-sub h)) (z-* (negsuc 0) 
 neg-neg : (x : ℤ) → x ≡ negℤ (negℤ x)
 neg-neg = ring1 (λ x. x ≔ neg (neg x)) tt
 
-pub guess-only : (A r t : ℕ) (minus : Bool) → Guess A r t minus → (p : ℤ) (q : ℕ) → Inside p q → Fits 61 A p q → Only p q (side minus r) t
+pub guess-only : (A r t : ℕ) (minus : Bool) → Guess A r t minus → (p : ℤ) (q : ℕ) → Inside p q → Fits 61 A p q → Only p q (signedBy minus r) t
 guess-only A r t false g p q i f =
     only-plus (pos A) p q (g .r₀) r (g .t₀) t (f .0) (g .traced .last .0) (g .traced .fits .0) (f .1) (g .traced .last .1) (g .traced .fits .1) (g .traced .sum) (g .traced .large) (g .small) i
 guess-only A r t true g p q i f = record { odd = o .odd; most = o .most; same = back }
@@ -182,19 +182,15 @@ guess-only A r t true g p q i f = record { odd = o .odd; most = o .most; same = 
 pub fits-fewer : (bytes : List ℕ) (k n : ℕ) (p : ℤ) (q : ℕ) → q % 2 ≡ 1 → k ≤ n → Fits n (value bytes n) p q → Fits k (value bytes k) p q
 fits-fewer bytes k n p q o l f = fits-digits k bytes p q o .1 (λ i h. fits-digits n bytes p q o .0 f i (omega arith))
 
-side-abs : (minus : Bool) (r : ℕ) → natAbs (side minus r) ≡ r
-side-abs true r = natAbs-neg (pos r)
-side-abs false r = refl
-
 module _ (bytes : List ℕ) (n r t : ℕ) (minus : Bool) (g : Guess (value bytes 61) r t minus) (l : 61 ≤ n) where
-  pub guess-inside : t % 2 ≡ 1 → t ≤ limit → Inside (side minus r) t
-  guess-inside o m = record { odd = o; some = omega arith; q-most = m; p-most = omega (arith, side-abs minus r, g .small) }
+  pub guess-inside : t % 2 ≡ 1 → t ≤ limit → Inside (signedBy minus r) t
+  guess-inside o m = record { odd = o; some = omega arith; q-most = m; p-most = omega (arith, signed-size minus r, g .small) }
 
-  pub guess-smallest : t % 2 ≡ 1 → t ≤ limit → Fits n (value bytes n) (side minus r) t → Smallest n (value bytes n) (side minus r) t
-  guess-smallest o m f = smallest-certified n (value bytes n) (side minus r) t l (guess-inside o m) f
-      (subst (Coprime t) (sym (side-abs minus r)) (power-coprime 61 t r (g .r₀) (g .t₀) o (g .traced .sum)))
+  pub guess-smallest : t % 2 ≡ 1 → t ≤ limit → Fits n (value bytes n) (signedBy minus r) t → Smallest n (value bytes n) (signedBy minus r) t
+  guess-smallest o m f = smallest-certified n (value bytes n) (signedBy minus r) t l (guess-inside o m) f
+      (subst (Coprime t) (sym (signed-size minus r)) (power-coprime 61 t r (g .r₀) (g .t₀) o (g .traced .sum)))
 
-  pub guess-none : (t % 2 ≡ 1 → t ≤ limit → Fits n (value bytes n) (side minus r) t → ⊥) → NoneFits n (value bytes n)
+  pub guess-none : (t % 2 ≡ 1 → t ≤ limit → Fits n (value bytes n) (signedBy minus r) t → ⊥) → NoneFits n (value bytes n)
   guess-none never p q i f =
       let o = guess-only (value bytes 61) r t minus g p q i (fits-fewer bytes 61 n p q (i .odd) l f) in
-      never (o .odd) (o .most) (fits-same n (value bytes n) p q (side minus r) t (i .odd) (o .same) f)
+      never (o .odd) (o .most) (fits-same n (value bytes n) p q (signedBy minus r) t (i .odd) (o .same) f)

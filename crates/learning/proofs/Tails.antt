@@ -7,15 +7,12 @@
 --   carried-all    a pair that was carried along fits
 use mathlib.Core.Path.{_≡_, refl, sym, ap, ap₂, _∙_}
 use mathlib.Core.List.{List, [], _∷_}
-use mathlib.Core.Bool.{Bool, true, false}
 use Prim.Native.Nat.{ℕ, zero, suc, _+_, _*_, _/_, _%_, _^_, _≤_, _<_}
 use native.Mathlib.Omega.{arith}
 use native.Mathlib.Nat.{mod-lt, mul-mod-right, mul-le-mul, mul-le-mul-right, le-of-mul-le-mul-left, add-mul-div-left, div-eq-of-lt, zero-add}
-use lib.Dec.{eqb}
 use lib.Pow.{pow-add, pow-pos}
 use lib.IntN.{ℤ, pos, negsuc, negℤ, natAbs, _+ℤ_, _-ℤ_, _*ℤ_}
 use lib.Signed.{shrZ}
-use borrow.Author.Tests.{eqb-true, eqb-false}
 use Rattle.integers.proofs.Parts.{natAbs-*}
 use Rattle.integers.proofs.Coprime.{quot}
 use Rattle.integers.proofs.Order.{eq-by, z-sub, z-*, z-+}
@@ -25,20 +22,10 @@ use Rattle.bits.specs.Bits.{Below, value, window}
 use Rattle.bits.proofs.Values.{value-more, value-lt}
 use Rattle.fractions.specs.Pairs.{limit, Fits}
 use Rattle.fractions.proofs.Same.{cancel}
-use Rattle.learning.specs.Steps.{Carried, Whole}
+use Rattle.learning.specs.Steps.{Carried}
 use Rattle.learning.proofs.Guesses.{fits-fewer}
 
--- ---- the test and the shift
-pub whole-of : (z : ℤ) (m a W : ℕ) → a ≡ natAbs z → W ≡ 2 ^ m → Whole z m (eqb (a % W) 0)
-whole-of z m a W ea eW = go (eqb (a % W) 0) refl
-  where
-    same : a % W ≡ natAbs z % 2 ^ m
-    same = ap₂ (λ (x y : ℕ). x % y) ea eW
-
-    go : (b : Bool) → eqb (a % W) 0 ≡ b → Whole z m b
-    go true h = sym same ∙ eqb-true (a % W) 0 h
-    go false h = λ k. eqb-false (a % W) 0 h (same ∙ k)
-
+-- ---- the shift
 whole-suc : (n W k : ℕ) → suc n ≡ W * k → suc (n / W) ≡ k
 whole-suc n zero k e = absurd (omega arith)
 whole-suc n (suc W) zero e = absurd (omega arith)

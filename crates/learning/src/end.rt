@@ -1,25 +1,26 @@
 // The end: is the least vector inside the limits, and with which sign is it the answer?
 ghost use mathlib.Core.Path.{_≡_};
-ghost use Prim.Native.Nat.{ℕ, _^_, _≤_, _<_};
+ghost use Prim.Native.Nat.{_*_, _^_, _≤_, _<_, max};
 ghost use lib.IntN.{pos, natAbs};
+ghost use Rattle.integers.specs.Numbers.{Decides, Divides};
 ghost use Rattle.fractions.specs.Pairs.{limit};
 ghost use Rattle.reduction.specs.Vectors.{vect, Within};
-ghost use Rattle.learning.specs.Steps.{Held, Twofold, flip, Finished};
+ghost use Rattle.learning.specs.Steps.{flip, Finished};
 use integers::signed::narrow;
 
 const LIMIT: u64 = fractions::LIMIT as u64;
 
 pub fn held(g: reduction::Vector) -> bool
     requires { ⌜ Within (2 ^ 61) (vect g) ⌝ }
-    ensures { λ r. ⌜ Held (g .p) (g .q) r ⌝ }
+    ensures { λ r. ⌜ Decides (max (natAbs (g .p)) (natAbs (g .q)) ≤ limit) r ⌝ }
 {
     reduction::order::larger(integers::magnitude(g.p), integers::magnitude(g.q)) <= LIMIT
 }
 
-// Does 2^n divide 2 a?
+// Does 2^n divide 2 a? Then p and -p of that size both fit, or neither.
 fn twofold(n: usize, a: u64) -> bool
     requires { ⌜ (n < 61) × (a ≤ limit) ⌝ }
-    ensures { λ r. ⌜ Twofold n a r ⌝ }
+    ensures { λ r. ⌜ Decides (Divides (2 ^ n) (2 * a)) r ⌝ }
 {
     2 * a % (1 << n) == 0
 }

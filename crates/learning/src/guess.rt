@@ -1,10 +1,8 @@
 // The guess: Euclid's algorithm on 2^61 and the first 61 bits, down to the first remainder inside the limit. No other fraction inside the limits can fit.
 ghost use mathlib.Core.Path.{_≡_};
-ghost use Prim.Native.Nat.{ℕ, _^_, _≤_, _<_};
-ghost use lib.IntN.{pos};
+ghost use Prim.Native.Nat.{_^_, _<_};
 ghost use Rattle.bits.specs.Bits.{value};
-ghost use Rattle.fractions.specs.Pairs.{limit};
-ghost use Rattle.learning.specs.Steps.{side, Guess};
+ghost use Rattle.learning.specs.Steps.{Guess};
 
 // A remainder r and its cofactor t: t times the bits is r, or -r, modulo 2^61.
 pub struct Convergent {
@@ -43,23 +41,5 @@ pub fn euclid(a: usize) -> Convergent
         r: r1,
         t: t1,
         minus: minus,
-    }
-}
-
-fn signed(x: usize) -> i64
-    requires { ⌜ x < 2 ^ 62 ⌝ }
-    ensures { λ r. ⌜ r ≡ pos x ⌝ }
-{
-    x as i64
-}
-
-pub fn side(r: usize, minus: bool) -> i64
-    requires { ⌜ r ≤ limit ⌝ }
-    ensures { λ p. ⌜ p ≡ side minus r ⌝ }
-{
-    if minus {
-        integers::signed::sub(0, signed(r))
-    } else {
-        signed(r)
     }
 }

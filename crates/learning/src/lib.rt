@@ -2,9 +2,7 @@
 //
 // Fewer than 61 bits are searched bit by bit (crate reduction). From 61 bits on two pairs inside the limits that fit are the same fraction, so a guess by
 // Euclid's algorithm on the first 61 bits (guess) is right if it fits them all (tail), and if it is outside the limits or does not fit, no pair does.
-ghost use mathlib.Core.Path.{_≡_};
-ghost use Prim.Native.Nat.{ℕ, _≤_, _<_};
-ghost use lib.ListN.{length};
+ghost use Prim.Native.Nat.{_≤_, _<_};
 ghost use Rattle.learning.specs.Learning.{numberOf, pOf, qOf, Enough, Learns};
 
 mod end;
@@ -52,7 +50,7 @@ fn by_guess(bytes: &[u8], n: usize) -> Learned
     if LIMIT < t {
         return Learned::NoneInside;
     }
-    let p = guess::side(e.r, e.minus);
+    let p = integers::signed::with_sign(e.r as u64, e.minus);
     if tail::fits(bytes, n, p, t) {
         return Learned::Answer(end::fraction(p, t));
     }

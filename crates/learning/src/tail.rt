@@ -1,12 +1,11 @@
 // The check: does a pair fit all n bits? Up to 32 bits at a time: the pair goes on where 2^m divides rest - w q, w the next m bits, and its new rest is that divided by 2^m.
 ghost use mathlib.Core.Path.{_≡_};
-ghost use Prim.Native.Nat.{ℕ, _*_, _^_, _≤_, _<_, min};
+ghost use Prim.Native.Nat.{_*_, _^_, _≤_, _<_, min};
 ghost use lib.IntN.{pos, natAbs, _-ℤ_};
 ghost use lib.Signed.{shrZ};
 ghost use Rattle.bits.specs.Bits.{value};
 ghost use Rattle.fractions.specs.Pairs.{limit, Inside, Fits};
-ghost use Rattle.fractions.specs.Answers.{Decides};
-ghost use Rattle.learning.specs.Steps.{Whole};
+ghost use Rattle.integers.specs.Numbers.{Decides, Divides};
 
 // What is left of p: p = A q + 2^i rest, A the value of the first i bits.
 struct Rest {
@@ -37,7 +36,7 @@ fn offset(x: Rest, w: usize, q: usize) -> i64
 // Does 2^m divide d?
 fn is_whole(d: i64, m: usize) -> bool
     requires { ⌜ (natAbs d < 2 ^ 63) × (m ≤ 32) ⌝ }
-    ensures { λ r. ⌜ Whole d m r ⌝ }
+    ensures { λ r. ⌜ Decides (Divides (2 ^ m) (natAbs d)) r ⌝ }
 {
     integers::magnitude(d) % (1 << m) == 0
 }

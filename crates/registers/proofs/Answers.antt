@@ -1,6 +1,6 @@
 -- The answers: each contract determines them, and what loading and reading back are to each other.
 --
---   valid-unique, step-unique, load-unique, read-back-unique, sheet-unique
+--   step-unique, load-unique, read-back-unique, sheet-unique
 --                    any two results that meet the contract of one of the public functions are equal
 --   steps-same, loads-same, reads-same, sheets-same
 --                    the same of the numbers that the relations are between
@@ -9,16 +9,14 @@
 --   load-read-back   reading back a loaded pair gives its lowest terms, and is not refused
 --   read-back-emits  loading what was read back emits the same bits
 use mathlib.Core.Path.{_≡_, refl, sym, ap, ap₂, _∙_, subst}
-use mathlib.Core.Bool.{Bool, true, false}
 use Prim.Native.Nat.{ℕ}
 use native.Mathlib.Omega.{arith}
 use lib.IntN.{ℤ, pos, natAbs, negℤ, _+ℤ_}
 use Rattle.integers.proofs.Finite.{least-unique}
 use Rattle.fractions.specs.Pairs.{Inside, Lowest}
-use Rattle.fractions.specs.Answers.{Decides}
-use Rattle.fractions.specs.Expansion.{iterNum, digitsTo}
+use Rattle.fractions.specs.Expansion.{digitsTo}
 use Rattle.fractions.proofs.Lowest.{lowest-unique, inside-lowest}
-use Rattle.registers.specs.Registers.{cellCount, Valid, Load, numOf, outTo}
+use Rattle.registers.specs.Registers.{Load, numOf, outTo}
 use Rattle.registers.specs.Answers.{Steps, stepped, stepNumber, stepBit, stepRegister, Loads, loaded, wide, loadNumber, loadRegister, ReadsBack, pair, readNumber, readP, readQ, Sheets, sheet, sheetNumber, sheetCells, sheetBits}
 use Rattle.registers.specs.Answers as A
 use Rattle.registers.specs.declared.Register.{Register}
@@ -35,13 +33,6 @@ use Rattle.taps.specs.Sums.{overTo}
 use Rattle.registers.proofs.Loading as Rule
 use Rattle.registers.proofs.Memory.{load-narrow}
 use Rattle.fractions.proofs.Expansion.{digits-same}
-
--- ---- valid or not
-pub valid-unique : (g : Register) (r s : Bool) → Decides (Valid g) r → Decides (Valid g) s → r ≡ s
-valid-unique g true true h k = refl
-valid-unique g true false h k = absurd (k h)
-valid-unique g false true h k = absurd (h k)
-valid-unique g false false h k = refl
 
 -- ---- step
 pub steps-same : {g : Register} {m n b c : ℕ} {x y : Register} → Steps g m b x → Steps g n c y → (m ≡ n) × (b ≡ c) × (x ≡ y)

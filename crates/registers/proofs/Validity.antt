@@ -16,7 +16,7 @@ use Rattle.integers.proofs.Sizes.{odd-lt, half-size}
 use Rattle.integers.proofs.Parts.{natAbs-+}
 use Rattle.bits.specs.Bits.{bitOf}
 use Rattle.fractions.specs.Pairs.{limit}
-use Rattle.fractions.specs.Answers.{Decides}
+use Rattle.integers.specs.Numbers.{Decides}
 use Rattle.taps.proofs.Adding.{taps-le}
 use Rattle.taps.specs.Sums.{tapsTo}
 use Rattle.registers.specs.Registers.{cellCount, Valid, sumBelow, tapSum, sumOf, nextOf, iterOf, tap, cell}

@@ -1,9 +1,9 @@
 // The register: step, load, read back, sheet. The contracts cite Registers and Answers of specs/.
 ghost use mathlib.Core.Path.{_≡_};
-ghost use Prim.Native.Nat.{ℕ, _+_, _-_, _*_, _/_, _%_, _^_, _≤_, _<_};
+ghost use Prim.Native.Nat.{_+_, _-_, _*_, _/_, _%_, _^_, _≤_, _<_};
 ghost use lib.IntN.{natAbs};
 ghost use Rattle.integers.specs.Numbers.{Least};
-ghost use Rattle.fractions.specs.Answers.{Decides};
+ghost use Rattle.integers.specs.Numbers.{Decides};
 ghost use Rattle.registers.specs.Registers.{Valid, nextOf, numOf};
 ghost use Rattle.registers.specs.Answers.{Steps, stepNumber, stepBit, stepRegister};
 ghost use Rattle.registers.specs.Answers.{Loads, loadNumber, loadRegister};

@@ -1,8 +1,8 @@
 // The memory of a register in sums: they are made in 64 bits.
 ghost use mathlib.Core.Path.{_≡_};
-ghost use Prim.Native.Nat.{ℕ, _*_, _^_, _≤_, _<_};
+ghost use Prim.Native.Nat.{_*_, _^_, _≤_, _<_};
 ghost use lib.IntN.{pos, natAbs, negℤ, _+ℤ_, _-ℤ_, _*ℤ_};
-ghost use Rattle.fractions.specs.Answers.{Decides};
+ghost use Rattle.integers.specs.Numbers.{Decides};
 
 // 2^30: a memory is at most this, either way
 const MOST: u64 = 1 << 30;

@@ -4,7 +4,8 @@ use native.Mathlib.Omega.{arith}
 use mir.Syntax.{w32}
 use mir.ValLaws.{toZ-ofZ}
 use Rattle.fractions.specs.Pairs.{Inside}
-use Rattle.fractions.specs.Answers.{Decides, word, outside}
+use Rattle.fractions.specs.Answers.{word, outside}
+use Rattle.integers.specs.Numbers.{Decides}
 use Rattle.fractions.proofs.Words.{word-fits}
 use borrow.Author.Needs.{needs}
 use Rattle.fractions.proofs.output_word.Statement.{statement}

@@ -8,10 +8,10 @@ use mir.Syntax.{w64}
 use mir.Val.{toZ, ofZ}
 use Rattle.bits.specs.Bits.{value}
 use Rattle.fractions.specs.Pairs.{limit, Inside, Fits, Smallest}
-use Rattle.fractions.specs.Answers.{Decides}
+use Rattle.integers.specs.Numbers.{Decides, signedBy}
 use Rattle.reduction.proofs.Moves.{got}
 use Rattle.learning.specs.Learning.{answer, none}
-use Rattle.learning.specs.Steps.{side, Guess}
+use Rattle.learning.specs.Steps.{Guess}
 use Rattle.learning.proofs.Guesses.{guess-inside, guess-smallest, guess-none}
 use borrow.Author.Needs.{needs}
 use Rattle.learning.proofs.by_guess.Statement.{statement}
@@ -21,8 +21,8 @@ use Rattle.learning.proofs.by_guess.Tie as tie
 guessed : (c : tie.After-euclid) → let e = c .euclid .result in Guess (value (c .before .before .before .args .bytes .now) 61) (e .r) (e .t) (e .minus)
 guessed c = let e = c .euclid .result in subst (λ (a : ℕ). Guess a (e .r) (e .t) (e .minus)) (c .before .first61 .ensures .0) (c .euclid .ensures)
 
-p-is : (c : tie.After-side) → let e = c .before .before .before .euclid .result in toZ w64 (ofZ w64 (c .side .result)) ≡ side (e .minus) (e .r)
-p-is c = got _ (c .side .ok) (c .side .ensures)
+p-is : (c : tie.After-with-sign) → let e = c .before .before .before .euclid .result in toZ w64 (ofZ w64 (c .with-sign .result)) ≡ signedBy (e .minus) (e .r)
+p-is c = got _ (c .with-sign .ok) (c .with-sign .ensures)
 
 -- what the tests have shown
 odd : (c : tie.Else2) → c .before .before .euclid .result .t % 2 ≡ 1
@@ -31,7 +31,7 @@ odd c = omega arith
 most : (c : tie.Else2) → c .before .before .euclid .result .t ≤ limit
 most c = omega arith
 
-in-limits : (c : tie.After-side) → Inside (toZ w64 (ofZ w64 (c .side .result))) (c .before .before .before .euclid .result .t)
+in-limits : (c : tie.After-with-sign) → Inside (toZ w64 (ofZ w64 (c .with-sign .result))) (c .before .before .before .euclid .result .t)
 in-limits c =
     let e = c .before .before .before .euclid .result in
     let s = c .before .before .before .before .before .before in
@@ -56,8 +56,8 @@ returns-2 c =
     let e = c .before .before .euclid .result in
     none (s .pre .1) (guess-none (s .args .bytes .now) (s .args .n) (e .r) (e .t) (e .minus) (guessed (c .before .before)) (s .pre .0) (λ o m f. omega arith))
 
-side-requires : tie.Need-side-requires
-side-requires c κs = c .before .before .euclid .ensures .small
+with-sign-requires : tie.Need-with-sign-requires
+with-sign-requires c κs = omega (arith, c .before .before .euclid .ensures .small)
 
 fits-requires : tie.Need-fits-requires
 fits-requires c κs = (omega (arith, c .before .before .before .before .before .before .pre .1 .few), in-limits c)
@@ -67,7 +67,7 @@ fraction-requires c κs = let i = in-limits (c .before .before) in (i .p-most, i
 
 -- what the check answered, of the guess
 decided : (c : tie.After-fits2) (b : Bool) → c .fits2 .result ≡ b → let s = c .before .before .before .before .before .before .before in
-    let e = c .before .before .before .before .euclid .result in Decides (Fits (s .args .n) (value (s .args .bytes .now) (s .args .n)) (side (e .minus) (e .r)) (e .t)) b
+    let e = c .before .before .before .before .euclid .result in Decides (Fits (s .args .n) (value (s .args .bytes .now) (s .args .n)) (signedBy (e .minus) (e .r)) (e .t)) b
 decided c b h =
     let s = c .before .before .before .before .before .before .before in
     let e = c .before .before .before .before .euclid .result in
@@ -97,7 +97,7 @@ by-guess-spec =
     euclid-requires
     returns
     returns-2
-    side-requires
+    with-sign-requires
     fits-requires
     fraction-requires
     returns-3

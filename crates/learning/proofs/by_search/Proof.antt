@@ -1,14 +1,14 @@
 -- `learning::by_search` meets its contract: g is the least pair with q odd that fits, so it is the answer, or none is inside the limits.
 use mathlib.Core.Path.{subst}
-use Prim.Native.Nat.{_≤_, _^_}
+use Prim.Native.Nat.{_≤_, _^_, max}
 use native.Mathlib.Omega.{arith}
 use lib.Pow.{pow-mono}
 use lib.IntN.{natAbs}
+use Rattle.integers.specs.Numbers.{Decides}
 use Rattle.fractions.specs.Pairs.{limit}
 use Rattle.reduction.specs.Vectors.{vect, Within}
 use Rattle.reduction.proofs.States.{at-small, within-le}
 use Rattle.learning.specs.Learning.{answer, none}
-use Rattle.learning.specs.Steps.{Held}
 use Rattle.learning.proofs.Ends.{none-large, smallest}
 use borrow.Author.Needs.{needs}
 use Rattle.learning.proofs.by_search.Statement.{statement}
@@ -21,7 +21,7 @@ g-in c =
     within-le (pow-mono {i = s .args .n} {j = 61} l) (at-small (s .args .bytes .now) (s .args .n) l (c .search .ensures) .in-g)
 
 within : (c : tie.Then1) → let g = c .before .before .before .search .result .g in (natAbs (g .p) ≤ limit) × (natAbs (g .q) ≤ limit)
-within c = let g = c .before .before .before .search .result .g in subst (Held (g .p) (g .q)) (c .if1 .taken) (c .before .held .ensures)
+within c = let g = c .before .before .before .search .result .g in let l = subst (Decides (max (natAbs (g .p)) (natAbs (g .q)) ≤ limit)) (c .if1 .taken) (c .before .held .ensures) in (omega arith, omega arith)
 
 search-requires : tie.Need-search-requires
 search-requires c κs = search needs
@@ -42,7 +42,7 @@ returns-2 : tie.Need-returns-2
 returns-2 c =
     let s = c .before .before .before .before .before in
     let x = c .before .before .before .search in
-    none (s .pre .1) (none-large (s .args .bytes .now) (s .args .n) (x .ensures) (subst (Held (x .result .g .p) (x .result .g .q)) (c .if1 .left) (c .before .held .ensures)))
+    none (s .pre .1) (none-large (s .args .bytes .now) (s .args .n) (x .ensures) (subst (Decides (max (natAbs (x .result .g .p)) (natAbs (x .result .g .q)) ≤ limit)) (c .if1 .left) (c .before .held .ensures)))
 
 pub by-search-spec : {M : Type 1} → statement M
 by-search-spec =

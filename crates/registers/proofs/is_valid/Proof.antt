@@ -8,7 +8,7 @@ use mir.Syntax.{w32, w64}
 use mir.Val.{toZ, ofZ}
 use mir.ValLaws.{toZ-ofZ}
 use Rattle.integers.proofs.Log2.{log2-below}
-use Rattle.fractions.specs.Answers.{Decides}
+use Rattle.integers.specs.Numbers.{Decides}
 use Rattle.registers.specs.Registers.{cellCount}
 use Rattle.registers.proofs.Validity.{valid-tested}
 use Rattle.registers.proofs.is_valid.Statement.{statement}

@@ -8,7 +8,7 @@ use mir.Syntax.{w32, w64}
 use mir.Val.{toZ, ofZ}
 use mir.ValLaws.{toZ-ofZ}
 use Rattle.fractions.specs.Pairs.{Inside}
-use Rattle.fractions.specs.Answers.{Decides}
+use Rattle.integers.specs.Numbers.{Decides}
 use Rattle.registers.specs.Inner.{LoadsTo}
 use Rattle.registers.specs.Answers.{Loads, loaded, outside, wide}
 use Rattle.registers.proofs.load.Statement.{statement}

@@ -6,7 +6,7 @@ use lib.IntN.{ℤ, natAbs}
 use mir.Syntax.{w32, w64}
 use mir.Val.{toZ, ofZ}
 use mir.ValLaws.{toZ-ofZ}
-use Rattle.fractions.specs.Answers.{Decides}
+use Rattle.integers.specs.Numbers.{Decides}
 use Rattle.fractions.specs.Inner.{Reduced}
 use Rattle.registers.specs.Registers.{Valid, numOf}
 use Rattle.registers.specs.Answers.{ReadsBack, pair, invalid, outside}

@@ -3,7 +3,7 @@ use borrow.Author.Needs.{needs}
 use mathlib.Core.Path.{sym, subst}
 use Prim.Native.Nat.{ℕ}
 use native.Mathlib.Omega.{arith}
-use Rattle.fractions.specs.Answers.{Decides}
+use Rattle.integers.specs.Numbers.{Decides}
 use Rattle.registers.specs.Registers.{Valid}
 use Rattle.registers.specs.Answers.{Sheets, sheet, invalid}
 use Rattle.registers.proofs.Validity.{facts}

@@ -1,7 +1,7 @@
 -- `registers::step` meets its contract: a valid register is advanced, and any other comes back as it was given.
 use borrow.Author.Needs.{needs}
 use mathlib.Core.Path.{sym, subst}
-use Rattle.fractions.specs.Answers.{Decides}
+use Rattle.integers.specs.Numbers.{Decides}
 use Rattle.registers.specs.Registers.{Valid, emitted}
 use Rattle.registers.specs.Answers.{Steps, stepped, invalid}
 use Rattle.registers.specs.declared.Register.{Register}

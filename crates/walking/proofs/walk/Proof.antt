@@ -2,7 +2,7 @@
 use mathlib.Core.Path.{refl, subst}
 use native.Mathlib.Omega.{arith}
 use borrow.Author.Needs.{needs}
-use Rattle.fractions.specs.Answers.{Decides}
+use Rattle.integers.specs.Numbers.{Decides}
 use Rattle.registers.specs.Registers.{Valid}
 use Rattle.walking.specs.Walks.{walked, invalid, past}
 use Rattle.walking.proofs.walk.Statement.{statement}

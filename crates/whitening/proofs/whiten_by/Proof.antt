@@ -4,7 +4,7 @@ use mathlib.Core.List.{List}
 use native.Mathlib.Omega.{arith}
 use borrow.Author.Needs.{needs}
 use Prim.Native.Nat.{ℕ}
-use Rattle.fractions.specs.Answers.{Decides}
+use Rattle.integers.specs.Numbers.{Decides}
 use Rattle.registers.specs.Registers.{Valid}
 use Rattle.registers.specs.declared.Register.{Register}
 use Rattle.whitening.specs.Whitening.{whiteOf, Whitens, whitened, invalid, long}

@@ -10,9 +10,10 @@ use mir.Val.{toZ, ofZ}
 use mir.ValLaws.{toZ-ofZ}
 use lib.Signed.{shrZ}
 use Rattle.bits.specs.Bits.{Below, num, value, window}
+use Rattle.integers.specs.Numbers.{Decides, Divides}
 use Rattle.fractions.specs.Pairs.{Fits}
 use Rattle.reduction.proofs.Moves.{got}
-use Rattle.learning.specs.Steps.{Carried, Whole}
+use Rattle.learning.specs.Steps.{Carried}
 use Rattle.learning.proofs.Tails.{carried-none, carried-on, carried-off, carried-all, offset-small}
 use Rattle.learning.proofs.tail.fits.Statement.{statement}
 use Rattle.learning.proofs.tail.fits.Tie as tie
@@ -82,7 +83,7 @@ loop-again c =
     let l = o .before .before .before .before .loop in
     let s = o .before .before .before .before .before .before in
     let m = o .before .before .at-most-32 .result in
-    let w = subst (λ (z : ℤ). natAbs z % 2 ^ m ≡ 0) (tested o) (subst (Whole (toZ w64 (ofZ w64 (o .offset .result))) m) (c .before .if1 .taken) (c .before .before .is-whole .ensures)) in (
+    let w = subst (λ (z : ℤ). natAbs z % 2 ^ m ≡ 0) (tested o) (subst (Decides (Divides (2 ^ m) (natAbs (toZ w64 (ofZ w64 (o .offset .result)))))) (c .before .if1 .taken) (c .before .before .is-whole .ensures)) in (
       omega arith,
       subst (λ (r : ℤ). Carried (s .args .bytes .now) (l .i + m) (toZ w64 (ofZ w64 (s .args .p))) (s .args .q) r) (sym (c .shifted .ensures ∙ ap (λ (z : ℤ). shrZ z (2 ^ m)) (tested o)))
           (carried-on (s .args .bytes .now) (l .i) m _ (s .args .q) (l .x .rest) (low (o .before .before .before .before .before)) (l .inv .1) (s .pre .1 .q-most) w),
@@ -94,7 +95,7 @@ returns c =
     let l = o .before .before .before .before .loop in
     let s = o .before .before .before .before .before .before in
     let m = o .before .before .at-most-32 .result in
-    let never = subst (λ (z : ℤ). natAbs z % 2 ^ m ≡ 0 → ⊥) (tested o) (subst (Whole (toZ w64 (ofZ w64 (o .offset .result))) m) (c .if1 .left) (c .before .is-whole .ensures)) in
+    let never = subst (λ (z : ℤ). natAbs z % 2 ^ m ≡ 0 → ⊥) (tested o) (subst (Decides (Divides (2 ^ m) (natAbs (toZ w64 (ofZ w64 (o .offset .result)))))) (c .if1 .left) (c .before .is-whole .ensures)) in
     λ f. carried-off (s .args .bytes .now) (l .i) m _ (s .args .q) (l .x .rest) (low (o .before .before .before .before .before)) (l .inv .1) (s .args .n) (s .pre .1 .odd) (omega arith) never
     (subst (λ (p : ℤ). Fits (s .args .n) (value (s .args .bytes .now) (s .args .n)) p (s .args .q)) (sym (start-is s)) f)
 

@@ -6,7 +6,7 @@ use lib.Pow.{pow-pos}
 use mir.Syntax.{w64}
 use mir.ValLaws.{toZ-ofZ}
 use Rattle.integers.proofs.Modulo.{one-shifted}
-use Rattle.learning.proofs.Tails.{whole-of}
+use Rattle.integers.proofs.Tests.{decides-divides}
 use borrow.Author.Needs.{needs}
 use Rattle.learning.proofs.tail.is_whole.Statement.{statement}
 use Rattle.learning.proofs.tail.is_whole.Tie as tie
@@ -21,7 +21,7 @@ rem-result : tie.Need-rem-result
 rem-result c = rw (one-shifted (c .before .args .m) (omega arith)) (pow-pos (c .before .args .m))
 
 returns : tie.Need-returns
-returns c = whole-of (c .before .args .d) (c .before .args .m) _ _ (c .magnitude .ensures ∙ ap natAbs (toZ-ofZ w64 (c .before .args .d) (c .before .fits .d))) (one-shifted (c .before .args .m) (omega arith))
+returns c = decides-divides _ _ (one-shifted (c .before .args .m) (omega arith)) (c .magnitude .ensures ∙ ap natAbs (toZ-ofZ w64 (c .before .args .d) (c .before .fits .d)))
 
 pub is-whole-spec : {M : Type 1} → statement M
 is-whole-spec = tie.close (tie.spec magnitude-requires shl-result rem-result returns)

@@ -6,10 +6,10 @@ use lib.Dec.{leb}
 use lib.IntN.{natAbs}
 use mir.Syntax.{w64}
 use mir.ValLaws.{toZ-ofZ}
-use Rattle.fractions.specs.Answers.{Decides}
+use Rattle.integers.specs.Numbers.{Decides}
 use Rattle.taps.proofs.memory.in_range.Statement.{statement}
 use Rattle.taps.proofs.memory.in_range.Tie as tie
-use Rattle.fractions.proofs.Limits.{decides-le}
+use Rattle.integers.proofs.Tests.{decides-le}
 
 magnitude-requires : tie.Need-magnitude-requires
 magnitude-requires c κs = search needs

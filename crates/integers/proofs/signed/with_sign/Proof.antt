@@ -1,4 +1,4 @@
--- `fractions::with_sign` meets its contract, by the sign.
+-- `integers::signed::with_sign` meets its contract, by the sign.
 use mathlib.Core.Path.{_≡_, sym, ap, _∙_}
 use native.Mathlib.Omega.{arith}
 use lib.IntN.{ℤ, pos, negℤ, _-ℤ_}
@@ -6,13 +6,13 @@ use Prim.Native.Nat.{ℕ, _<_, _^_}
 use mir.Syntax.{w64}
 use mir.Val.{SFits, toZ}
 use mir.ValLaws.{toZ-ofZ, toZ-pos}
 use Rattle.integers.proofs.Parts.{natAbs-neg}
 use Rattle.integers.proofs.Ring.{#, neg, _⊖_, ring1, _≔_}
 use Rattle.integers.proofs.Sizes.{fits64}
-use Rattle.fractions.specs.Inner.{signedBy}
+use Rattle.integers.specs.Numbers.{signedBy}
 use borrow.Author.Needs.{needs}
-use Rattle.fractions.proofs.with_sign.Statement.{statement}
-use Rattle.fractions.proofs.with_sign.Tie as tie
+use Rattle.integers.proofs.signed.with_sign.Statement.{statement}
+use Rattle.integers.proofs.signed.with_sign.Tie as tie
 
 minus : (n : ℕ) → pos 0 -ℤ pos n ≡ negℤ (pos n)
 minus n = ring1 (λ n. # 0 ⊖ n ≔ neg n) tt (pos n)
