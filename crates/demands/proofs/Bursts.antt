@@ -15,7 +15,7 @@ use Rattle.integers.proofs.Finite.{le-or-gt}
 use Rattle.bits.specs.Bits.{num, digits, value}
 use Rattle.fractions.specs.Pairs.{limit, Inside, Fits, size, below, Then, NotAfter}
 use Rattle.fractions.proofs.Lowest.{part}
-use Rattle.demands.proofs.Loaded.{and-T}
+use Rattle.integers.proofs.Tests.{and-T}
 use Rattle.learning.specs.Learning.{Learns, answer}
 
 -- ---- tests and what they mean

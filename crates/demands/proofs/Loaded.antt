@@ -8,6 +8,7 @@ use native.Mathlib.Nat.{mod-eq-of-lt, mod-zero}
 use lib.Dec.{T, eqb, leb, eqb→eq, leb→le}
 use lib.IntN.{ℤ, pos, natAbs, _-ℤ_, _*ℤ_}
 use Rattle.integers.specs.Numbers.{Divides, Coprime}
+use Rattle.integers.proofs.Tests.{and-T}
 use Rattle.integers.proofs.Parts.{up, down, eq-of}
 use Rattle.fractions.specs.Pairs.{limit, Inside, Lowest}
 use Rattle.fractions.specs.Expansion.{digitsTo}
@@ -29,10 +30,6 @@ loadsb p q a m p' q' =
     && (leb 1 q' && ((eqb q' 1 || eqb (natAbs p') 1) && same (p *ℤ pos q') (p' *ℤ pos q))))
 
 -- ---- and what it shows
-pub and-T : (a b : Bool) → T (a && b) → T a × T b
-and-T true b t = (tt, t)
-and-T false b t = absurd t
-
 divides-one : (d : ℕ) → Divides d 1 → d ≡ 1
 divides-one zero h = absurd (omega (arith, mod-zero 1))
 divides-one (suc zero) h = refl

@@ -15,6 +15,7 @@ use lib.Dec.{T, eqb, ltb, eqb→eq, ltb→lt}
 use lib.IntN.{ℤ, pos, negsuc}
 use lib.ListN.{length}
 use Rattle.integers.specs.Numbers.{log2, logIn}
+use Rattle.integers.proofs.Tests.{and-T}
 use Rattle.bits.specs.Bits.{num, digits, value}
 use Rattle.fractions.specs.Pairs.{Inside, Fits, size}
 use Rattle.fractions.specs.Expansion.{nextNum, iterNum, digitsTo}
@@ -28,8 +29,8 @@ use Rattle.walking.specs.Walks.{Loops, statesOf, Walks, walked, past}
 use Rattle.walking.specs.Inner.{dist, Enters}
 use Rattle.walking.proofs.LeadIn.{enters-zero, enters-suc}
 use Rattle.walking.proofs.Walks.{walk-of}
-use Rattle.demands.proofs.Bursts.{insideb, inside-sound, fitsb, fits-sound, learnsb, learns-sound, packed}
-use Rattle.demands.proofs.Loaded.{loadsb, loads-sound, and-T}
+use Rattle.demands.proofs.Bursts.{learnsb, learns-sound, packed}
+use Rattle.demands.proofs.Loaded.{loadsb, loads-sound}
 
 pub data Row : Type 0 where
   burst : List ℕ → ℤ → ℕ → Row

@@ -16,9 +16,9 @@ use native.Mathlib.Omega.{arith}
 use native.Mathlib.Nat.{mod-eq-of-lt, eq-of-mul-eq-mul-left}
 use lib.Pow.{pow-pos}
 use lib.Bits.{bitXor}
-use lib.Dec.{T}
 use lib.IntN.{ℤ, natAbs}
 use lib.ListN.{length}
+use Rattle.integers.proofs.Tests.{not-both}
 use Rattle.bits.specs.Bits.{num, digits}
 use Rattle.bits.proofs.Numbers.{length-digits}
 use Rattle.bits.proofs.Values.{num-low}
@@ -84,9 +84,6 @@ read-digits g p q n r =
     let a = read-parts g p q r in
     emits n g (a .valid) ∙ digits-same n (numOf g) (g .q) p q (a .valid .odd) (a .inside .odd) (a .lowest .same)
 
-differ : (b : Bool) → b ≡ true → b ≡ false → ⊥
-differ b e d = subst T (sym e ∙ d) tt
-
 module _ (g : Register) (p : ℤ) (q b n meter : ℕ) (blocks : List (List ℕ)) (t : List ℕ) (h : Trained g p q b n meter blocks t) where
   place-bits : burst t meter ≡ emittedBits n g
   place-bits = runs-fresh meter (h .meter-low) (h .meter-high) blocks t (h .runs) ∙ h .bits
@@ -105,10 +102,10 @@ module _ (g : Register) (p : ℤ) (q b n meter : ℕ) (blocks : List (List ℕ))
   learns number p' q' (answer a f) =
       let r = read-parts g p q (h .read) in
       (refl, smallest-recovered (length (burst t meter)) (num 2 (burst t meter)) b p' q' p q f (r .inside) place-fits (r .lowest .lowest) (h .p-below) (h .q-below) (omega (arith, place-count, h .enough)))
-  learns number p' q' (damaged d) = absurd (differ (isStore t) (runs-kept fresh blocks t fresh-store (h .runs)) d)
-  learns number p' q' (unknown d (inl e)) = absurd (omega (arith, h .meter-low))
-  learns number p' q' (unknown d (inr e)) = absurd (omega (arith, h .meter-high))
-  learns number p' q' (none a f) = absurd (f p q (read-parts g p q (h .read) .inside) place-fits)
+  whole-learns number p' q' (damaged d) = absurd (not-both (isStore t) (runs-kept fresh blocks t fresh-store (h .runs)) d)
+  whole-learns number p' q' (unknown d (inl e)) = absurd (omega (arith, h .meter-low))
+  whole-learns number p' q' (unknown d (inr e)) = absurd (omega (arith, h .meter-high))
+  whole-learns number p' q' (none a f) = absurd (f p q (read-parts g p q (h .read) .inside) place-fits)
 
 -- ---- for ever
 module _ (g k : Register) (p : ℤ) (q : ℕ) (r : ReadsBack g 0 p q) (l : Loads p q 0 k) where

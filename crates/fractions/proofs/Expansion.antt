@@ -8,7 +8,7 @@
 --   fits-digits             a pair fits a burst exactly when bit i is digit i, for each i below n
 --   digits-bit              bit i of the first n digits as one number is digit i
 --   outputs-bit             so bit i of the output word is digit i of the expansion
---   outputs-unique          two answers for the output word are the same
+--   outputs-unique          two answers for the output word have the same numbers; output-unique: so they are the same answer
 use mathlib.Core.Path.{_≡_, refl, sym, ap, ap₂, _∙_, subst}
 use mathlib.Core.Logic.{_↔_, inl, inr}
 use mathlib.Core.List.{List}
@@ -25,7 +25,9 @@ use Rattle.integers.proofs.Ring.{lit, neg, _⊕_, _⊗_, _⊖_, ring3, ring5, _
 use Rattle.bits.specs.Bits.{bitOf, bitAt, value}
 use Rattle.fractions.specs.Pairs.{Fits, SameFraction}
 use Rattle.fractions.specs.Expansion.{nextNum, iterNum, digitAt, digitsTo}
-use Rattle.fractions.specs.Answers.{Outputs, word, outside}
+use Rattle.fractions.specs.Answers.{numberOf, wordOf, Outputs, word, outside}
+use Rattle.fractions.specs.declared.Output.{Output}
+use Rattle.fractions.specs.declared.Output.the-variants.{Word, Outside}
 use Rattle.fractions.proofs.Numerators.{Splits, split-eq, split-of, expansion-splits, splits-unique, digits-add, digits-lt}
 use Rattle.fractions.proofs.Same.{fits-same}
 use Rattle.bits.proofs.Values.{bit-lt, value-lt}
@@ -121,3 +123,9 @@ outputs-unique p q m n u v (word k l f) (word i h g) = (refl, expansion-unique 6
 outputs-unique p q m n u v (word k l f) (outside x) = absurd (x k)
 outputs-unique p q m n u v (outside x) (word k l f) = absurd (x k)
 outputs-unique p q m n u v (outside x) (outside y) = (refl, refl)
+
+pub output-unique : (p : ℤ) (q : ℕ) (r s : Output) → Outputs p q (numberOf r) (wordOf r) → Outputs p q (numberOf s) (wordOf s) → r ≡ s
+output-unique p q (Word u) (Word v) h k = ap Word (outputs-unique p q 0 0 u v h k .1)
+output-unique p q (Word u) Outside h k = absurd (omega (arith, outputs-unique p q 0 4 u 0 h k .0))
+output-unique p q Outside (Word v) h k = absurd (omega (arith, outputs-unique p q 4 0 0 v h k .0))
+output-unique p q Outside Outside h k = refl

@@ -10,6 +10,7 @@ use lib.Dec.{T}
 use lib.IntN.{ℤ, pos, negsuc, negℤ, _+ℤ_, _*ℤ_, natAbs, pow, one}
 use Rattle.integers.proofs.Parts.{natAbs-is, natAbs-neg, natAbs-*, parts-+, parts-*, zarith}
 use Rattle.integers.specs.Numbers.{Odd, Even}
+use Rattle.integers.proofs.Tests.{and-T}
 use Rattle.integers.proofs.Ring.{E, var, lit, _⊕_, _⊗_, neg, pw, val, at}
 
 infixr 3 _⇒_
@@ -156,10 +157,6 @@ both (s ⇒ t) ρ = (
   (λ f. imp-to (test s (parities ρ)) (test t (parities ρ)) (λ u. both t ρ .0 (f (both s ρ .1 u)))),
   (λ u h. both t ρ .1 (imp-of (test s (parities ρ)) (test t (parities ρ)) u (both s ρ .0 h))),
 )
-
-and-T : (a b : Bool) → T (a && b) → T a × T b
-and-T true b t = (tt, t)
-and-T false b t = absurd t
 
 pick : (b : Bool) (f : Bool → Bool) → T (f true) → T (f false) → T (f b)
 pick true f t u = t

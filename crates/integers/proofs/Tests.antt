@@ -3,11 +3,13 @@
 --   decides-unique   two answers to one question are equal
 --   decides-le       the test a <= b says whether a is at most b
 --   decides-divides  the test n % d == 0 says whether d divides n
-use mathlib.Core.Path.{_≡_, refl, subst₂}
-use mathlib.Core.Bool.{Bool, true, false}
+--   not-both         no test is true and false
+--   and-T            two tests joined: each of them holds
+use mathlib.Core.Path.{_≡_, refl, sym, _∙_, subst, subst₂}
+use mathlib.Core.Bool.{Bool, true, false, _&&_}
 use Prim.Native.Nat.{ℕ, _%_, _≤_}
 use native.Mathlib.Omega.{arith}
-use lib.Dec.{eqb, leb}
+use lib.Dec.{T, eqb, leb}
 use borrow.Author.Tests.{leb-true, leb-false, eqb-true, eqb-false}
 use Rattle.integers.specs.Numbers.{Decides, Divides}
 
@@ -26,3 +28,10 @@ decides-le a b = decides-by (leb a b) (leb-true a b) (λ e h. omega (arith, leb-
 
 pub decides-divides : (d n : ℕ) {d' n' : ℕ} → d ≡ d' → n ≡ n' → Decides (Divides d' n') (eqb (n % d) 0)
 decides-divides d n p q = subst₂ (λ (k m : ℕ). Decides (Divides k m) (eqb (n % d) 0)) p q (decides-by (eqb (n % d) 0) (eqb-true (n % d) 0) (eqb-false (n % d) 0))
+
+pub not-both : (b : Bool) → b ≡ true → b ≡ false → ⊥
+not-both b p q = subst T (sym p ∙ q) tt
+
+pub and-T : (a b : Bool) → T (a && b) → T a × T b
+and-T true b t = (tt, t)
+and-T false b t = absurd t

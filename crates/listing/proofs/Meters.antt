@@ -1,6 +1,5 @@
 -- What learning answers for a meter decides which line it has.
-use mathlib.Core.Path.{_≡_, refl, sym, _∙_, subst}
-use mathlib.Core.Bool.{true, false}
+use mathlib.Core.Path.{_≡_, refl, sym, subst}
 use mathlib.Core.Logic.{inl, inr}
 use mathlib.Core.List.{List, [], _∷_, _++_, append-assoc}
 use Prim.Native.Nat.{ℕ, zero, suc, _≤_, _<_}
@@ -8,10 +7,11 @@ use native.Mathlib.Omega.{arith}
 use lib.Dec.{lit≤}
 use lib.IntN.{ℤ, pos, _-ℤ_, _*ℤ_}
 use lib.ListN.{length}
+use Rattle.integers.proofs.Tests.{not-both}
 use Rattle.integers.proofs.Ring.{#, _⊗_, ring1, _≔_}
 use Rattle.fractions.specs.Pairs.{Inside, NoneFits}
 use Rattle.fractions.specs.declared.Fraction.{Fraction}
-use Rattle.places.specs.Places.{burst, HasPlace}
+use Rattle.places.specs.Places.{isStore, burst, HasPlace}
 use Rattle.by_meter.specs.ByMeter.{LearnsMeter, meterNumber, meterP, meterQ}
 use Rattle.by_meter.specs.ByMeter as M
 use Rattle.by_meter.specs.declared.ByMeter.{ByMeter}
@@ -45,7 +45,7 @@ pub none-asked : {s : List ℕ} {m : ℕ} → LearnsMeter s m 3 (pos 0) 0 → Ha
 none-asked (M.none a f) = a
 
 damaged-not : {s : List ℕ} {m : ℕ} → LearnsMeter s m 10 (pos 0) 0 → HasBits s m → ⊥
-damaged-not {s} (M.damaged d) b = let z : true ≡ false = sym (b .asked .store) ∙ d in let y : _≡_ {A = ℕ} 0 1 = cc in omega arith
+damaged-not {s} (M.damaged d) b = not-both (isStore s) (b .asked .store) d
 
 unknown-not : {s : List ℕ} {m : ℕ} → LearnsMeter s m 14 (pos 0) 0 → HasBits s m → ⊥
 unknown-not (M.unknown e (inl z)) b = omega (arith, b .asked .low)
