@@ -2,7 +2,7 @@
 use Prim.Native.Nat.{ℕ, zero, suc, _+_, _*_, _/_, _%_, _^_, _≤_, _<_}
 use mathlib.Core.Path.{_≡_, refl, sym, ap, _∙_, ap₂}
 use mathlib.Core.List.{List, [], _∷_}
-use mathlib.Core.Logic.{_⊎_, ⊎-elim}
+use mathlib.Core.Logic.{_↔_, ⊎-elim}
 use native.Mathlib.Nat.{pow-succ', div-eq-of-lt, div-div-eq-div-mul, div-add-mod, div-lt-iff-lt-mul, pow-le-pow-right, div-le-self, div-add-mod'}
 use native.Mathlib.Omega.{arith}
 use lib.ListN.{length, getD, List·getD-eq-default}
@@ -66,15 +66,19 @@ none-at-all (suc k) n l h =
     let p : n / 1 % 2 ≡ 0 = h 0 in
     omega arith
 
-pub spare-zero : (bytes : List ℕ) (c : ℕ) → Below 256 bytes → num 256 bytes < 2 ^ c → (i : ℕ) → c ≤ i → bitAt bytes i ≡ 0
+spare-zero : (bytes : List ℕ) (c : ℕ) → Below 256 bytes → num 256 bytes < 2 ^ c → (i : ℕ) → c ≤ i → bitAt bytes i ≡ 0
 spare-zero bytes c l h i k = bit-of bytes i l ∙ no-bit c i (num 256 bytes) h k
 
-pub zero-spare : (bytes : List ℕ) (c : ℕ) → Below 256 bytes → ((i : ℕ) → c ≤ i → bitAt bytes i ≡ 0) → num 256 bytes < 2 ^ c
+zero-spare : (bytes : List ℕ) (c : ℕ) → Below 256 bytes → ((i : ℕ) → c ≤ i → bitAt bytes i ≡ 0) → num 256 bytes < 2 ^ c
 zero-spare bytes c l h =
     let n = num 256 bytes in
     let z : n / 2 ^ c ≡ 0 = none-at-all (8 * length bytes) (n / 2 ^ c) (omega (arith, num-lt 256 bytes l, pow8 (length bytes), div-le-self n (2 ^ c))) (λ i. ap (λ (x : ℕ). x % 2) (div-div-eq-div-mul n (2 ^ c) (2 ^ i) ∙ ap (λ (x : ℕ). n / x) (sym (pow-add 2 c i))) ∙ sym (bit-of bytes (c + i) l) ∙ h (c + i) (omega arith)) in
     let y : n < 1 * 2 ^ c = div-lt-iff-lt-mul {k = 2 ^ c} {x = n} {y = 1} (pow-pos c) .0 (omega arith) in
     omega arith
+
+-- so the test of a number is the rule on its bits: none is set at or past c
+pub spare-bits : (bytes : List ℕ) (c : ℕ) → Below 256 bytes → (num 256 bytes < 2 ^ c) ↔ ((i : ℕ) → c ≤ i → bitAt bytes i ≡ 0)
+spare-bits bytes c l = (spare-zero bytes c l, zero-spare bytes c l)
 
 -- ---- exclusive or with the same number twice changes nothing
 differ-back : (d e : ℕ) → d < 2 → e < 2 → differ (bitXor d e) e ≡ d

@@ -1,24 +1,27 @@
 -- A place that keeps the rules is exactly the encoding of its list of bits, and learning sees those bits.
 --
---   place-rules      the rules of a place, in the document's words: a count of at most 4,096, and no bit set at or past the count
+--   place-rules      a place is accepted exactly where it keeps the rules, in the document's words: a count of at most 4,096, and no bit set at or past the count
 --   encode-decode    the encoding of a place's bits is the place
 --   decode-encode    an encoding keeps the rules, and its bits are those that were encoded
 --   store-encode     the same for the store and its 32 lists
 --   Holds bytes n bits   the first n bits of the bytes are these bits, as learning sees them: their value, and that there are bytes enough
 --   burst-holds      the bytes and the count of a meter's place hold its bits
 --   part-holds       so does the part of the store that a call hands on
-use Prim.Native.Nat.{ℕ, _+_, _-_, _*_, _≤_, _<_}
+use Prim.Native.Nat.{ℕ, _+_, _-_, _*_, _^_, _≤_, _<_}
 use mathlib.Core.Path.{_≡_, sym, ap, _∙_, subst}
 use mathlib.Core.Bool.{true}
+use mathlib.Core.Logic.{_↔_}
 use mathlib.Core.List.{List, [], _∷_, append-nil}
 use native.Mathlib.Omega.{arith}
 use lib.ListN.{length, getD, drop}
 use lib.Seq.{take-all, getD-drop}
+use borrow.Author.Tests.{le-leb, lt-ltb}
 use Rattle.bits.specs.Bits.{num, Below, bitAt, value}
 use Rattle.bits.proofs.Laws.{below-take}
-use Rattle.bits.proofs.Bits.{spare-zero}
+use Rattle.bits.proofs.Bits.{spare-bits}
 use Rattle.bits.proofs.Values.{value-bits}
 use Rattle.records.specs.Block.{meters}
+use Rattle.records.proofs.Cond.{yes}
 use Rattle.places.specs.Places.{placeSize, bitsOffset, bitBytes, mostBits, placeAt, countOf, held, encode, encodeAll, isPlace, isStore, bitsAt, bitsOf, burst}
 use Rattle.places.proofs.Laws.{length-held}
 use Rattle.places.proofs.Encode.{Sound, place-parts, place-law, store-law, store-parts, all-sound}
@@ -28,8 +31,14 @@ use Rattle.places.proofs.Encode.{burst-at, burst-count}
 below-held : (s : List ℕ) (at : ℕ) → Below 256 s → Below 256 (held s at)
 below-held s at l = below-take 256 (drop (at + bitsOffset) s) bitBytes (omega arith) (λ i. subst (λ (n : ℕ). n < 256) (sym (getD-drop (at + bitsOffset) s i 0)) (l (at + bitsOffset + i)))
 
-pub place-rules : (s : List ℕ) (at : ℕ) → Below 256 s → isPlace s at ≡ true → (countOf s at ≤ mostBits) × ((i : ℕ) → countOf s at ≤ i → bitAt (held s at) i ≡ 0)
-place-rules s at l e = let p = place-parts s at e in (p .0, spare-zero (held s at) (countOf s at) (below-held s at l) (p .1))
+parts-place : (s : List ℕ) (at : ℕ) → countOf s at ≤ mostBits → num 256 (held s at) < 2 ^ countOf s at → isPlace s at ≡ true
+unfolding isPlace
+parts-place s at h k = yes _ _ (le-leb _ _ h) ∙ lt-ltb _ _ k
+
+pub place-rules : (s : List ℕ) (at : ℕ) → Below 256 s → (isPlace s at ≡ true) ↔ ((countOf s at ≤ mostBits) × ((i : ℕ) → countOf s at ≤ i → bitAt (held s at) i ≡ 0))
+place-rules s at l =
+    let spare = spare-bits (held s at) (countOf s at) (below-held s at l) in
+    (λ e. (let p = place-parts s at e in (p .0, spare .0 (p .1))), λ r. parts-place s at (r .0) (spare .1 (r .1)))
 
 pub encode-decode : (p : List ℕ) → Below 256 p → length p ≡ placeSize → isPlace p 0 ≡ true → encode (bitsAt p 0) ≡ p
 encode-decode p l n e = place-law p 0 l (omega arith) e ∙ take-all placeSize p (omega arith)

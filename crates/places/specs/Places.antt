@@ -55,7 +55,7 @@ unfoldable pub encodeAll : List (List ℕ) → List ℕ
 encodeAll [] = []
 encodeAll (b ∷ bs) = encode b ++ encodeAll bs
 
--- that the number of the bytes is below 2 to the count says that no bit at or past the count is set
+-- that the number of the bytes is below 2 to the count says that no bit at or past the count is set (law `place-rules`)
 unfoldable pub isPlace : List ℕ → ℕ → Bool
 isPlace s at = cond (leb (countOf s at) mostBits) (ltb (num 256 (held s at)) (2 ^ countOf s at)) false
 

@@ -6,11 +6,13 @@
 --   stands-inside         its bytes lie inside the block, and its bits' bytes inside the record
 --   bytes-few             the bytes of a record's bits are as few as hold them
 --   entry-bit             bit i of a record is bit i of its own bytes
---   entry-spare           the spare bits of its bytes are zero
+--   spare-rule            the test for refusal 16 is the document's sentence: no bit of its bytes at or past the count is set
+--   entry-spare           so the spare bits of a record that stands are zero
 --   stands-where           a record stands wherever its bytes stand, with the same meter and bits: nothing outside them counts
 use Prim.Native.Nat.{ℕ, _+_, _-_, _*_, _/_, _^_, _≤_, _<_}
 use mathlib.Core.Path.{_≡_, refl, sym, ap, _∙_, subst}
 use mathlib.Core.Bool.{Bool, true, false, cond}
+use mathlib.Core.Logic.{_↔_}
 use mathlib.Core.List.{List, [], _∷_}
 use native.Mathlib.Omega.{arith}
 use lib.ListN.{length, getD, drop, length-drop}
@@ -18,7 +20,7 @@ use lib.Seq.{length-take-le, getD-take, getD-drop, ext-getD}
 use lib.Dec.{ltb, leb, eqb}
 use borrow.Author.Tests.{ltb-true, ltb-false, leb-false, eqb-true, eqb-false, eq-eqb, ne-eqb, lt-ltb, le-ltb, lt-leb}
 use Rattle.bits.specs.Bits.{num, digits, Below, bitAt}
-use Rattle.bits.proofs.Bits.{unpacked-bit, spare-zero}
+use Rattle.bits.proofs.Bits.{unpacked-bit, spare-bits}
 use Rattle.bits.proofs.Laws.{below-take}
 use Rattle.records.specs.declared.Record.{Record}
 use Rattle.records.specs.declared.Refusal.{Refusal}
@@ -40,6 +42,14 @@ pub record Stands (block : List ℕ) (at : ℕ) (r : Record) : Type 0 where
   pub count-low : 0 < r .count
   pub count-high : r .count ≤ recordBits
   pub spare : num 256 (payload block (r .start) (r .count)) < 2 ^ (r .count)
+
+-- ---- the spare bits
+below-payload : (block : List ℕ) (start count : ℕ) → Below 256 block → Below 256 (payload block start count)
+below-payload block start count l = below-take 256 (drop start block) (bytesFor count) (omega arith) (λ i. subst (λ (x : ℕ). x < 256) (sym (getD-drop start block i 0)) (l (start + i)))
+
+pub spare-rule : (block : List ℕ) (start count : ℕ) → Below 256 block
+    → (num 256 (payload block start count) < 2 ^ count) ↔ ((i : ℕ) → count ≤ i → bitAt (payload block start count) i ≡ 0)
+spare-rule block start count l = spare-bits (payload block start count) count (below-payload block start count l)
 
 -- ---- from the parser's answer
 passed : (t : Bool) (h x : Head) (r : Record) → (h ≡ H.Found r → ⊥) → cond t h x ≡ H.Found r → (t ≡ false) × (x ≡ H.Found r)
@@ -133,16 +143,13 @@ module _ (block : List ℕ) (at : ℕ) (r : Record) where
     pub payload-long : length (payload block (r .start) (r .count)) ≡ bytesFor (r .count)
     payload-long = length-take-le (bytesFor (r .count)) (drop (r .start) block) (rw length-drop (omega (arith, s .ends, s .last)))
 
-    below-payload : Below 256 block → Below 256 (payload block (r .start) (r .count))
-    below-payload l = below-take 256 (drop (r .start) block) (bytesFor (r .count)) (omega arith) (λ i. subst (λ (x : ℕ). x < 256) (sym (getD-drop (r .start) block i 0)) (l (r .start + i)))
-
     -- the byte that holds bit i lies between the record's start and its end
     pub entry-bit : Below 256 block → (i : ℕ) → i < r .count → (getD (entryOf block at r .bits) i 0 ≡ bitAt (payload block (r .start) (r .count)) i) × (r .start + i / 8 < r .next)
     entry-bit l i h =
-        (unpacked-bit (payload block (r .start) (r .count)) (r .count) i (below-payload l) h, omega (arith, s .ends))
+        (unpacked-bit (payload block (r .start) (r .count)) (r .count) i (below-payload block (r .start) (r .count) l) h, omega (arith, s .ends))
 
     pub entry-spare : Below 256 block → (i : ℕ) → r .count ≤ i → bitAt (payload block (r .start) (r .count)) i ≡ 0
-    entry-spare l i h = spare-zero (payload block (r .start) (r .count)) (r .count) (below-payload l) (s .spare) i h
+    entry-spare l = spare-rule block (r .start) (r .count) l .0 (s .spare)
 
 pub bytes-few : (count : ℕ) → (count ≤ 8 * bytesFor count) × ((n : ℕ) → count ≤ 8 * n → bytesFor count ≤ n)
 bytes-few count = (omega arith, λ n h. omega arith)

@@ -72,7 +72,7 @@ placeOf (BadCount p) = p
 placeOf (RunsPast p) = p
 placeOf (SpareBit p) = p
 
--- a whole header, by its three numbers
+-- a whole header, by its three numbers; that the number of the bytes is below 2 to the count says "spare high bits of the last byte zero" (law `spare-rule`)
 unfoldable pub judged : List ℕ → ℕ → ℕ → ℕ → ℕ → Head
 judged block at mark meter count =
     cond (eqb mark markWord)
