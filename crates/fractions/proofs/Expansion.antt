@@ -20,7 +20,7 @@ use lib.IntN.{ℤ, pos, negsuc, negℤ, _-ℤ_, _*ℤ_}
 use Rattle.integers.specs.Numbers.{oddZ}
 use Rattle.integers.proofs.Sizes.{odd-lt}
 use Rattle.integers.proofs.Finite.{le-or-gt}
-use Rattle.integers.proofs.Order.{eq-by, z-sub, z-*}
+use Rattle.integers.proofs.Equations.{eq-by, z-sub, z-*}
 use Rattle.integers.proofs.Ring.{lit, neg, _⊕_, _⊗_, _⊖_, ring3, ring5, _≔_}
 use Rattle.bits.specs.Bits.{bitOf, bitAt, value}
 use Rattle.fractions.specs.Pairs.{Fits, SameFraction}

@@ -14,7 +14,7 @@ use lib.Pow.{pow-pos}
 use lib.IntN.{ℤ, pos, negsuc, negℤ, natAbs, _+ℤ_, _-ℤ_, _*ℤ_}
 use Rattle.integers.specs.Numbers.{Odd, Even}
 use Rattle.integers.proofs.Parts.{natAbs-*, eq-of-sub}
-use Rattle.integers.proofs.Order.{eq-by, z-+, z-sub, z-*, mul-zero-cases}
+use Rattle.integers.proofs.Equations.{eq-by, z-+, z-sub, z-*, mul-zero-cases}
 use Rattle.integers.proofs.Parity.{even-form, odd-or-even, od, ev, _⇒_, par1, par2}
 use Rattle.integers.proofs.Sizes.{abs--, abs-*}
 use Rattle.integers.proofs.Ring.{#, neg, _⊕_, _⊗_, _⊖_, var, ring, ring1, ring2, ring3, ring6, _≔_}

@@ -1,7 +1,7 @@
 -- The laws on numbers that proofs of every crate cite.
 pub mod Parts
 pub mod Ring
-pub mod Order
+pub mod Equations
 pub mod Parity
 pub mod Sizes
 pub mod Tests

@@ -4,7 +4,7 @@ use Prim.Native.Nat.{ℕ, zero, suc, _+_, _-_, _*_, _/_, _^_, _≤_, _<_}
 use native.Mathlib.Omega.{arith}
 use native.Mathlib.Nat.{not-suc-le-zero, not-le-of-lt, le-refl, le-trans}
 use native.Mathlib.Decide.{le-ind}
-use mathlib.Core.Logic.{_⊎_, inl, inr, ⊎-elim}
+use mathlib.Core.Logic.{inl, inr, ⊎-elim}
 use lib.Pow.{pow-mono}
 use lib.Dec.{ltb}
 use lib.Count.{leadingZeros, leading-top, leading-le, leading-length}

@@ -185,9 +185,6 @@ par4 q t x y z w = par (q (var 0) (var 1) (var 2) (var 3)) (x ∷ y ∷ z ∷ w 
 pub par5 : (q : E → E → E → E → E → S) → T (every 5 (test (q (var 0) (var 1) (var 2) (var 3) (var 4)))) → (x y z w v : ℤ) → Hold (q (var 0) (var 1) (var 2) (var 3) (var 4)) (x ∷ y ∷ z ∷ w ∷ v ∷ [])
 par5 q t x y z w v = par (q (var 0) (var 1) (var 2) (var 3) (var 4)) (x ∷ y ∷ z ∷ w ∷ v ∷ []) t
 
-pub par6 : (q : E → E → E → E → E → E → S) → T (every 6 (test (q (var 0) (var 1) (var 2) (var 3) (var 4) (var 5)))) → (x y z w v u : ℤ) → Hold (q (var 0) (var 1) (var 2) (var 3) (var 4) (var 5)) (x ∷ y ∷ z ∷ w ∷ v ∷ u ∷ [])
-par6 q t x y z w v u = par (q (var 0) (var 1) (var 2) (var 3) (var 4) (var 5)) (x ∷ y ∷ z ∷ w ∷ v ∷ u ∷ []) t
-
 -- ---- an even number is twice another; every number is even or odd
 pub even-form : (z : ℤ) → Even z → (k : ℤ) × (z ≡ pos 2 *ℤ k)
 even-form (pos n) h = (pos (n / 2), ap pos (omega arith))

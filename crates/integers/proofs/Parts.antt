@@ -6,16 +6,13 @@
 --   diff a b            a - b; by1 .. by5 prove a law on differences, `simp diff·ring (omega arith)`
 --   zarith              omega's rules for statements on integers
 use mathlib.Core.Path.{_≡_, refl, sym, _∙_, ap, subst}
-use mathlib.Core.Logic.{_↔_, _⊎_, inl, inr}
+use mathlib.Core.Logic.{_↔_}
 use mathlib.Core.Bool.{Bool, true, false, not, cond}
 use Prim.Native.Nat.{ℕ, zero, suc, _+_, _*_, _-_, _<_, _≤_, min}
 use native.Mathlib.Omega.{arith}
-use native.Mathlib.Nat.{mul-le-mul-left}
-use native.Mathlib.Decide.{decLe}
 use lib.Dec.{T, ltb, ltb→lt, nltb→le, lt→ltb, leb→le, le→leb}
 use lib.Signed.{_≤ℤ_, _<ℤ_, leZ-yes, ltZ-yes, leZ, ltZ}
 use lib.IntN.{ℤ, pos, negsuc, negℤ, _+ℤ_, _-ℤ_, _*ℤ_, natAbs, subℕ}
-use borrow.Author.Tests.{le-leb}
 use Rattle.integers.specs.Numbers.{oddZ, halfZ}
 
 -- the positive and the negative part
@@ -166,12 +163,6 @@ by2 P f x y = by1 (λ z. P z y) (λ a b. by1 (P (diff a b)) (f a b) y) x
 pub by3 : (P : ℤ → ℤ → ℤ → Type 0) → ((a b c d e f : ℕ) → P (diff a b) (diff c d) (diff e f)) → (x y z : ℤ) → P x y z
 by3 P g x y z = by2 (λ u v. P u v z) (λ a b c d. by1 (P (diff a b) (diff c d)) (g a b c d) z) x y
 
-pub *ℤ-assoc : (x y z : ℤ) → x *ℤ y *ℤ z ≡ x *ℤ (y *ℤ z)
-*ℤ-assoc = by3 (λ x y z. x *ℤ y *ℤ z ≡ x *ℤ (y *ℤ z)) (λ a b c d e f. simp diff·ring (omega arith))
-
-pub *ℤ-distrib-l : (x y z : ℤ) → x *ℤ (y +ℤ z) ≡ x *ℤ y +ℤ x *ℤ z
-*ℤ-distrib-l = by3 (λ x y z. x *ℤ (y +ℤ z) ≡ x *ℤ y +ℤ x *ℤ z) (λ a b c d e f. simp diff·ring (omega arith))
-
 pub by4 : (P : ℤ → ℤ → ℤ → ℤ → Type 0) → ((a b c d e f g h : ℕ) → P (diff a b) (diff c d) (diff e f) (diff g h)) → (x y z w : ℤ) → P x y z w
 by4 P k x y z w = by3 (λ s t u. P s t u w) (λ a b c d e f. by1 (P (diff a b) (diff c d) (diff e f)) (k a b c d e f) w) x y z
 
@@ -199,38 +190,8 @@ natAbs-* (pos a) (negsuc b) = natAbs-neg (pos (a * suc b))
 natAbs-* (negsuc a) (pos b) = natAbs-neg (pos (suc a * b))
 natAbs-* (negsuc a) (negsuc b) = refl
 
-pub pos-+ : (a b : ℕ) → pos (a + b) ≡ pos a +ℤ pos b
-pos-+ a b = refl
-
 pub pos-* : (a b : ℕ) → pos (a * b) ≡ pos a *ℤ pos b
 pos-* a b = refl
-
--- ---- more ring laws
-pub *ℤ-distrib-r : (x y z : ℤ) → (x +ℤ y) *ℤ z ≡ x *ℤ z +ℤ y *ℤ z
-*ℤ-distrib-r = by3 (λ x y z. (x +ℤ y) *ℤ z ≡ x *ℤ z +ℤ y *ℤ z) (λ a b c d e f. simp diff·ring (omega arith))
-
-pub neg-*ℤ : (x y : ℤ) → negℤ x *ℤ y ≡ negℤ (x *ℤ y)
-neg-*ℤ = by2 (λ x y. negℤ x *ℤ y ≡ negℤ (x *ℤ y)) (λ a b c d. simp diff·ring (omega arith))
-
-pub *ℤ-neg : (x y : ℤ) → x *ℤ negℤ y ≡ negℤ (x *ℤ y)
-*ℤ-neg = by2 (λ x y. x *ℤ negℤ y ≡ negℤ (x *ℤ y)) (λ a b c d. simp diff·ring (omega arith))
-
--- ---- the order's laws
-pub +ℤ-≤ : {x y z w : ℤ} → x ≤ℤ y → z ≤ℤ w → (x +ℤ z) ≤ℤ (y +ℤ w)
-+ℤ-≤ {x} {y} {z} {w} h k = le-of (x +ℤ z) (y +ℤ w) (omega (arith, le-to h, le-to k, parts-+ x z, parts-+ y w))
-
-pub ≤ℤ-trans : {x y z : ℤ} → x ≤ℤ y → y ≤ℤ z → x ≤ℤ z
-≤ℤ-trans {x} {y} {z} h k = le-of x z (omega (arith, le-to h, le-to k))
-
-pub ≤ℤ-antisym : {x y : ℤ} → x ≤ℤ y → y ≤ℤ x → x ≡ y
-≤ℤ-antisym {x} {y} h k = eq-of x y (omega (arith, le-to h, le-to k))
-
-pub *ℤ-≤ : (c : ℕ) {x y : ℤ} → x ≤ℤ y → (pos c *ℤ x) ≤ℤ (pos c *ℤ y)
-*ℤ-≤ c {x} {y} h = le-of (pos c *ℤ x) (pos c *ℤ y) (omega (arith, parts-* (pos c) x, parts-* (pos c) y, mul-le-mul-left c (le-to h)))
-
--- a case split
-pub le-or-lt : (x y : ℤ) → (x ≤ℤ y) ⊎ (y <ℤ x)
-le-or-lt x y = elim (decLe (up x + down y) (up y + down x)) [ yes h ↦ inl (le-of x y h) | no h ↦ inr (lt-of y x (omega arith)) ]
 
 pub by5 : (P : ℤ → ℤ → ℤ → ℤ → ℤ → Type 0) → ((a b c d e f g h i j : ℕ) → P (diff a b) (diff c d) (diff e f) (diff g h) (diff i j)) → (x y z w v : ℤ) → P x y z w v
 by5 P k x y z w v = by4 (λ s t u r. P s t u r v) (λ a b c d e f g h. by1 (P (diff a b) (diff c d) (diff e f) (diff g h)) (k a b c d e f g h) v) x y z w
@@ -251,7 +212,7 @@ eq-to {x} {y} h = omega (arith, ap up h, ap down h)
 -- omega's rules for statements on integers
 pub ruleset zarith = (arith, le-to, le-of, lt-to, lt-of, eq-to, eq-of)
 
--- ---- what code asks: a difference, a product by a natural number, a half, and the machine's test
+-- ---- what code asks: a difference, a product by a natural number, a half
 pub parts-- : (x y : ℤ) → up (x -ℤ y) + (down x + up y) ≡ up x + down y + down (x -ℤ y)
 parts-- x y = omega (arith, parts-+ x (negℤ y), up-neg y, down-neg y)
 
@@ -261,12 +222,3 @@ parts-*pos x n = omega (arith, parts-* x (pos n))
 pub parts-half : (z : ℤ) → up z + 2 * down (halfZ z) ≡ 2 * up (halfZ z) + oddZ z + down z
 parts-half (pos n) = omega arith
 parts-half (negsuc n) = omega arith
-
-pub leZ-of : (x y : ℤ) → up x + down y ≤ up y + down x → leZ x y ≡ true
-leZ-of (pos a) (pos b) h = le-leb a b (omega arith)
-leZ-of (pos a) (negsuc b) h = absurd (omega arith)
-leZ-of (negsuc a) (pos b) h = refl
-leZ-of (negsuc a) (negsuc b) h = le-leb b a (omega arith)
-
-pub leZ-to : (x y : ℤ) → leZ x y ≡ true → up x + down y ≤ up y + down x
-leZ-to x y e = le-to′ x y (subst T (sym e) tt)

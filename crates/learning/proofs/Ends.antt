@@ -13,7 +13,7 @@ use lib.Signed.{ltZ}
 use borrow.Author.Tests.{ltb-true}
 use Rattle.integers.specs.Numbers.{Decides, Divides}
 use Rattle.integers.proofs.Parts.{natAbs-neg, natAbs-*}
-use Rattle.integers.proofs.Order.{eq-by, z-sub, z-*, z-+}
+use Rattle.integers.proofs.Equations.{eq-by, z-sub, z-*, z-+}
 use Rattle.integers.proofs.Ring.{lit, #, neg, _⊕_, _⊗_, _⊖_, ring1, ring4, ring6, _≔_}
 use Rattle.bits.specs.Bits.{value}
 use Rattle.fractions.specs.Pairs.{limit, Inside, Fits, below, NotAfter, Smallest, NoneFits}

@@ -16,7 +16,7 @@ use lib.Pow.{pow-pos}
 use lib.IntN.{ℤ, pos, negsuc, negℤ, natAbs, _+ℤ_, _-ℤ_, _*ℤ_}
 use Rattle.integers.specs.Numbers.{Coprime, signedBy}
 use Rattle.integers.proofs.Parts.{eq-to, parts-+, parts--, parts-*, natAbs-is, natAbs-*, natAbs-neg, eq-of-sub}
-use Rattle.integers.proofs.Order.{eq-by, z-sub, z-*, z-+}
+use Rattle.integers.proofs.Equations.{eq-by, z-sub, z-*, z-+}
 use Rattle.integers.proofs.Sizes.{abs--, abs-*, signed-size}
 use Rattle.integers.proofs.Ring.{var, lit, #, neg, _⊕_, _⊗_, _⊖_, ring, ring1, ring2, ring3, ring4, ring6, _≔_, ring11}
 use Rattle.bits.specs.Bits.{value}

@@ -15,7 +15,7 @@ use lib.IntN.{ℤ, pos, negsuc, negℤ, natAbs, _+ℤ_, _-ℤ_, _*ℤ_}
 use lib.Signed.{shrZ}
 use Rattle.integers.proofs.Parts.{natAbs-*}
 use Rattle.integers.proofs.Coprime.{quot}
-use Rattle.integers.proofs.Order.{eq-by, z-sub, z-*, z-+}
+use Rattle.integers.proofs.Equations.{eq-by, z-sub, z-*, z-+}
 use Rattle.integers.proofs.Sizes.{abs--}
 use Rattle.integers.proofs.Ring.{var, lit, #, neg, _⊕_, _⊗_, _⊖_, ring, ring2, ring5, _≔_}
 use Rattle.bits.specs.Bits.{Below, value, window}

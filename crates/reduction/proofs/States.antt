@@ -8,7 +8,7 @@ use lib.Pow.{pow-mono}
 use lib.IntN.{ℤ, pos, negsuc, negℤ, natAbs, _-ℤ_, _*ℤ_}
 use Rattle.integers.specs.Numbers.{Odd, Even, halfZ}
 use Rattle.integers.proofs.Parts.{zarith, parts-*, natAbs-*}
-use Rattle.integers.proofs.Order.{eq-by, z-sub, z-*}
+use Rattle.integers.proofs.Equations.{eq-by, z-sub, z-*}
 use Rattle.integers.proofs.Sizes.{abs--, abs-*}
 use Rattle.integers.proofs.Ring.{#, lit, _⊕_, _⊗_, _⊖_, ring2, ring5, _≔_}
 use Rattle.bits.specs.Bits.{bitAt, value}

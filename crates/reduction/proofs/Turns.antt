@@ -6,7 +6,7 @@ use native.Mathlib.Omega.{arith}
 use lib.IntN.{ℤ, pos, _+ℤ_, _-ℤ_, _*ℤ_}
 use Rattle.integers.specs.Numbers.{Odd, Even}
 use Rattle.integers.proofs.Parity.{even-form, odd-or-even}
-use Rattle.integers.proofs.Order.{eq-by, z-sub, z-*}
+use Rattle.integers.proofs.Equations.{eq-by, z-sub, z-*}
 use Rattle.integers.proofs.Ring.{#, _⊕_, _⊗_, _⊖_, ring4, ring5, ring6, _≔_}
 use Rattle.integers.proofs.Parity.{od, ev, _⇒_, par1, par2, par3, par5}
 use Rattle.reduction.specs.Vectors.{Vect, norm, K, Fit, plus, minus, off, twice, rest}

@@ -1,7 +1,7 @@
 -- The algebra of pairs with their rest: what fits is closed under combinations, and two pairs of determinant 1 or −1 span all that fits.
 use mathlib.Core.Path.{_≡_, sym, _∙_, ap, ap₂}
 use lib.IntN.{ℤ, negsuc, negℤ, _+ℤ_, _-ℤ_, _*ℤ_}
-use Rattle.integers.proofs.Order.{eq-by, z-sub, z-*}
+use Rattle.integers.proofs.Equations.{eq-by, z-sub, z-*}
 use Rattle.integers.proofs.Ring.{#, lit, neg, _⊕_, _⊗_, _⊖_, ring4, ring5, ring6, _≔_}
 use Rattle.reduction.specs.Vectors.{Vect, Fit, plus, minus}
 use Rattle.reduction.specs.Reduced.{det, Unit2}

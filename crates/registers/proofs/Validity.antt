@@ -8,7 +8,6 @@ use mathlib.Core.Bool.{Bool, true, false}
 use Prim.Native.Nat.{ℕ, zero, suc, _+_, _-_, _*_, _/_, _%_, _^_, _≤_, _<_}
 use native.Mathlib.Omega.{arith}
 use native.Mathlib.Nat.{mul-le-mul-right, not-suc-le-zero}
-use native.Mathlib.Numerals.{add-one}
 use lib.IntN.{ℤ, pos, natAbs, _+ℤ_, _*ℤ_}
 use Rattle.integers.specs.Numbers.{oddZ, halfZ}
 use Rattle.integers.proofs.Log2.{log2-step, log2-below}
@@ -89,10 +88,6 @@ pub iter-q : (n : ℕ) (g : Register) → iterOf n g .q ≡ g .q
 unfolding iterOf
 iter-q zero g = refl
 iter-q (suc n) g = iter-q n g
-
-pub iter-more : (n : ℕ) (g : Register) → iterOf (n + 1) g ≡ nextOf (iterOf n g)
-unfolding iterOf
-iter-more n g = rw (add-one n)
 
 -- ---- what code tests
 -- the last test decides, once the others have passed

@@ -16,7 +16,7 @@ use Rattle.integers.proofs.Finite.{le-or-gt}
 use Rattle.integers.proofs.Parts.{up, down, eq-of, natAbs-is, natAbs-*, pos-*}
 use Rattle.integers.proofs.Coprime.{quot, euclid, lowest, two-cancel}
 use Rattle.integers.proofs.Modulo.{cong-of}
-use Rattle.integers.proofs.Order.{eq-by, z-*, z-sub}
+use Rattle.integers.proofs.Equations.{eq-by, z-*, z-sub}
 use Rattle.integers.proofs.Ring.{_⊕_, _⊗_, _⊖_, ring6, _≔_}
 use Rattle.fractions.specs.Pairs.{Lowest}
 use Rattle.fractions.specs.Expansion.{nextNum, iterNum, digitsTo}
