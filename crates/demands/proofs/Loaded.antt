@@ -15,7 +15,7 @@ use Rattle.fractions.specs.Expansion.{digitsTo}
 use Rattle.registers.specs.Registers.{cellCount, Load, yTo}
 use Rattle.registers.specs.Answers.{Loads, loaded, ReadsBack, pair}
 use Rattle.registers.specs.declared.Register.{Register}
-use Rattle.registers.proofs.Loading.{load-numerator, load-valid}
+use Rattle.registers.proofs.Loading.{rule-numerator as load-numerator, load-valid}
 use Rattle.fractions.proofs.Lowest.{inside-lowest}
 
 -- ---- the test

@@ -23,7 +23,7 @@ use Rattle.learning.specs.Learning.{Learns}
 use Rattle.registers.specs.declared.Register.{Register}
 use Rattle.registers.specs.Registers.{Valid, sumBelow, yTo}
 use Rattle.registers.specs.Answers.{Loads, loaded, ReadsBack, pair}
-use Rattle.registers.proofs.Loading.{load-numerator}
+use Rattle.registers.proofs.Loading.{rule-numerator as load-numerator}
 use Rattle.periods.proofs.Entries.{isOrder, order-tested}
 use Rattle.walking.specs.Walks.{Loops, statesOf, Walks, walked, past}
 use Rattle.walking.specs.Inner.{dist, Enters}

@@ -7,15 +7,15 @@
 --   line-says      two lines that are equal say the same meter, count, p, q and memory
 use mathlib.Core.Path.{_≡_, refl, sym, ap, subst}
 use mathlib.Core.List.{List, [], _∷_}
-use Prim.Native.Nat.{ℕ, _≤_, _<_}
+use Prim.Native.Nat.{ℕ, _≤_}
 use native.Mathlib.Omega.{arith}
 use lib.Dec.{lit<, lit≤}
 use lib.IntN.{ℤ}
 use lib.ListN.{length, getD, length-append}
 use Rattle.registers.specs.Registers.{cellCount}
-use Rattle.registers.specs.Answers.{Loads, loaded}
+use Rattle.registers.specs.Answers.{Loads}
 use Rattle.registers.specs.declared.Register.{Register}
-use Rattle.registers.proofs.Loading.{load-unique}
+use Rattle.registers.proofs.Answers.{loads-same}
 use Rattle.walking.specs.Walks as W
 use Rattle.walking.proofs.Walks.{loops-unique}
 use Rattle.places.specs.Places.{burst}
@@ -32,9 +32,6 @@ last-unique (walked (W.walked v l e k)) (past (W.past L T v' l' h)) = absurd (le
 last-unique (past (W.past L T v l h)) (walked (W.walked v' l' e' k')) = absurd (let u = loops-unique l l' in omega arith)
 last-unique (past h) (past h') = (refl, refl)
 
-loaded-unique : {p : ℤ} {q : ℕ} {g g' : Register} → Loads p q 0 g → Loads p q 0 g' → g ≡ g'
-loaded-unique {p} {q} (loaded i l m) (loaded i' l' m') = load-unique p q _ _ l l'
-
 -- what the line of a fraction says behind the count
 abbrev said : ℤ → ℕ → ℤ → List ℕ → List ℕ → List (List ℕ)
 said p q m a b = signedOf p ∷ decimalOf q ∷ decimalOf (cellCount q) ∷ signedOf m ∷ a ∷ b ∷ []
@@ -42,7 +39,7 @@ said p q m a b = signedOf p ∷ decimalOf q ∷ decimalOf (cellCount q) ∷ sign
 fraction-unique : {p p' : ℤ} {q q' : ℕ} {g g' : Register} {a b a' b' : List ℕ} → p ≡ p' → q ≡ q' → Loads p q 0 g → Loads p' q' 0 g' → LastTwo g a b → LastTwo g' a' b'
     → said p q (g .memory) a b ≡ said p' q' (g' .memory) a' b'
 fraction-unique {p} {p'} {q} {q'} {g} {g'} {a} {b} {a'} {b'} e f l l' t t' =
-    let k : g ≡ g' = loaded-unique l (subst (λ (x : ℤ). Loads x q 0 g') (sym e) (subst (λ (x : ℕ). Loads p' x 0 g') (sym f) l')) in
+    let k : g ≡ g' = loads-same l (subst (λ (x : ℤ). Loads x q 0 g') (sym e) (subst (λ (x : ℕ). Loads p' x 0 g') (sym f) l')) .1 in
     let u = last-unique t (subst (λ (x : Register). LastTwo x a' b') (sym k) t') in
     λ i. said (e i) (f i) (k i .memory) (u .0 i) (u .1 i)
 

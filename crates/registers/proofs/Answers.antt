@@ -29,9 +29,7 @@ use Rattle.registers.specs.declared.ReadBack.the-variants as Read
 use Rattle.registers.specs.declared.StorageSheet.{StorageSheet}
 use Rattle.registers.specs.declared.StorageSheet.the-variants as Sheet
 use Rattle.registers.proofs.States.{emits}
-use Rattle.taps.specs.Sums.{overTo}
-use Rattle.registers.proofs.Loading as Rule
-use Rattle.registers.proofs.Memory.{load-narrow}
+use Rattle.registers.proofs.Loading.{rule-unique, rule-numerator, load-valid}
 use Rattle.fractions.proofs.Expansion.{digits-same}
 
 -- ---- step
@@ -49,13 +47,13 @@ step-unique g (Step.Invalid x) (Step.Invalid y) h k = ap Step.Invalid (steps-sam
 
 -- ---- load
 pub loads-same : {p : ℤ} {q m n : ℕ} {x y : Register} → Loads p q m x → Loads p q n y → (m ≡ n) × (x ≡ y)
-loads-same {p} {q} (loaded i a f) (loaded j b g) = (refl, Rule.load-unique p q _ _ a b)
+loads-same {p} {q} (loaded i a f) (loaded j b g) = (refl, rule-unique p q _ _ a b)
 loads-same (loaded i a f) (A.outside j) = absurd (j i)
-loads-same {p} {q} (loaded i a f) (wide g j b e) = absurd (omega (arith, f, e, ap (λ (x : Register). natAbs (x .memory)) (Rule.load-unique p q _ _ a b)))
+loads-same {p} {q} (loaded i a f) (wide g j b e) = absurd (omega (arith, f, e, ap (λ (x : Register). natAbs (x .memory)) (rule-unique p q _ _ a b)))
 loads-same (A.outside i) (loaded j b g) = absurd (i j)
 loads-same (A.outside i) (A.outside j) = (refl, refl)
 loads-same (A.outside i) (wide g j b e) = absurd (i j)
-loads-same {p} {q} (wide g i a e) (loaded j b f) = absurd (omega (arith, f, e, ap (λ (x : Register). natAbs (x .memory)) (Rule.load-unique p q _ _ a b)))
+loads-same {p} {q} (wide g i a e) (loaded j b f) = absurd (omega (arith, f, e, ap (λ (x : Register). natAbs (x .memory)) (rule-unique p q _ _ a b)))
 loads-same (wide g i a e) (A.outside j) = absurd (j i)
 loads-same (wide g i a e) (wide h j b f) = (refl, refl)
 
@@ -71,7 +69,7 @@ load-unique p q Load.Wide Load.Outside h k = absurd (omega (arith, loads-same h 
 load-unique p q Load.Wide Load.Wide h k = refl
 
 pub load-numerator : (p : ℤ) (q : ℕ) (g : Register) → Loads p q 0 g → numOf g ≡ p
-load-numerator p q g (loaded i l m) = Rule.load-numerator p q g l
+load-numerator p q g (loaded i l m) = rule-numerator p q g l
 
 -- a pair inside the limits loads: refusal 8 never comes
 pub load-exists : (p : ℤ) (q : ℕ) → Inside p q → (g : Register) × Loads p q 0 g
@@ -88,7 +86,7 @@ pub loaded-valid : (p : ℤ) (q : ℕ) (g : Register) → Loads p q 0 g → Vali
 loaded-valid p q g (loaded i l m) = Rule.load-valid p q g i l m
 
 pub load-emits : (n : ℕ) (p : ℤ) (q : ℕ) (g : Register) → Loads p q 0 g → outTo n g ≡ digitsTo q n p
-load-emits n p q g (loaded i l m) = emits n g (Rule.load-valid p q g i l m) ∙ ap₂ (λ (x : ℕ) (z : ℤ). digitsTo x n z) (l .q-is) (Rule.load-numerator p q g l)
+load-emits n p q g (loaded i l m) = emits n g (load-valid p q g i l m) ∙ ap₂ (λ (x : ℕ) (z : ℤ). digitsTo x n z) (l .q-is) (rule-numerator p q g l)
 
 -- ---- read back
 pub reads-same : {g : Register} {m n q q' : ℕ} {p p' : ℤ} → ReadsBack g m p q → ReadsBack g n p' q' → (m ≡ n) × (p ≡ p') × (q ≡ q')
@@ -118,11 +116,11 @@ read-back-unique g Read.Outside Read.Outside h k = refl
 -- the fraction of a loaded register is the pair, so its lowest terms are the pair's
 lowest-loaded : {p p' : ℤ} {q q' : ℕ} (g : Register) → Load p q g → Lowest (numOf g) (g .q) p' q' → Lowest p q p' q'
 lowest-loaded {p} {p'} {q} {q'} g l k =
-    subst (λ (x : ℕ). Lowest p x p' q') (l .q-is) (subst (λ (z : ℤ). Lowest z (g .q) p' q') (Rule.load-numerator p q g l) k)
+    subst (λ (x : ℕ). Lowest p x p' q') (l .q-is) (subst (λ (z : ℤ). Lowest z (g .q) p' q') (rule-numerator p q g l) k)
 
 pub load-read-back : (p : ℤ) (q : ℕ) (g : Register) (n : ℕ) (p' : ℤ) (q' : ℕ) → Loads p q 0 g → ReadsBack g n p' q' → (n ≡ 0) × Lowest p q p' q'
 load-read-back p q g n p' q' (loaded i l m) (pair v k j) = (refl, lowest-loaded g l k)
-load-read-back p q g n p' q' (loaded i l m) (A.ReadsBack.invalid v) = absurd (v (Rule.load-valid p q g i l m))
+load-read-back p q g n p' q' (loaded i l m) (A.ReadsBack.invalid v) = absurd (v (load-valid p q g i l m))
 load-read-back p q g n p' q' (loaded i l m) (A.ReadsBack.outside p″ q″ v k j) = absurd (j (inside-lowest p q p″ q″ i (lowest-loaded g l k)))
 
 pub read-back-emits : (n : ℕ) (g h : Register) (p : ℤ) (q : ℕ) → ReadsBack g 0 p q → Loads p q 0 h → outTo n h ≡ outTo n g

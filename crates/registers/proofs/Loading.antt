@@ -1,12 +1,12 @@
 -- Loading: the rule gives one register, and its numerator is p.
 --
 --   load-is         the register that the rule gives: its memory is -(p_r + overTo), p_r the numerator after r digits
---   load-unique     .. and the only one
---   load-numerator  its numerator is p
+--   rule-unique     .. and the only one
+--   rule-numerator  its numerator is p
 --   load-state      a valid register is the one that its numerator loads
 --   load-valid      a loaded register whose memory fits is valid
 use mathlib.Core.Path.{_≡_, refl, sym, ap, ap₂, _∙_, subst}
-use Prim.Native.Nat.{ℕ, _+_, _*_, _%_, _^_, _≤_, _<_}
+use Prim.Native.Nat.{ℕ, _*_, _%_, _^_, _≤_, _<_}
 use native.Mathlib.Omega.{arith}
 use lib.Pow.{pow-pos}
 use lib.IntN.{ℤ, pos, natAbs, negℤ, _+ℤ_, _-ℤ_, _*ℤ_}
@@ -40,8 +40,8 @@ load-is p q a m o e k =
           ∙ ap₂ (λ (y x : ℤ). y -ℤ x) (sym (y-over q a o l)) (sym f);
     }
 
-pub load-unique : (p : ℤ) (q : ℕ) (g h : Register) → Load p q g → Load p q h → g ≡ h
-load-unique p q g h a b =
+pub rule-unique : (p : ℤ) (q : ℕ) (g h : Register) → Load p q g → Load p q h → g ≡ h
+rule-unique p q g h a b =
     let R = 2 ^ cellCount q in
     let c : g .cells ≡ h .cells = a .cells ∙ sym (b .cells) in
     let e : g .memory *ℤ pos R ≡ h .memory *ℤ pos R = a .memory ∙ ap (λ (x : ℕ). yTo q x (cellCount q) -ℤ p) c ∙ sym (b .memory) in
@@ -49,8 +49,8 @@ load-unique p q g h a b =
     let k = a .q-is ∙ sym (b .q-is) in
     λ i. record { q = k i; cells = c i; memory = m i }
 
-pub load-numerator : (p : ℤ) (q : ℕ) (g : Register) → Load p q g → numOf g ≡ p
-load-numerator p q g l =
+pub rule-numerator : (p : ℤ) (q : ℕ) (g : Register) → Load p q g → numOf g ≡ p
+rule-numerator p q g l =
     ap (λ (x : ℕ). yTo x (g .cells) (cellCount x) -ℤ g .memory *ℤ pos (2 ^ cellCount x)) (l .q-is)
     ∙ ap (λ (z : ℤ). yTo q (g .cells) (cellCount q) -ℤ z) (l .memory)
     ∙ ring2 (λ y p. y ⊖ (y ⊖ p) ≔ p) tt (yTo q (g .cells) (cellCount q)) p

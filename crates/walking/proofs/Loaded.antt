@@ -12,8 +12,7 @@ use Rattle.fractions.specs.Pairs.{Inside, LowestTerms, Lowest}
 use Rattle.registers.specs.Registers.{Valid, numOf}
 use Rattle.registers.specs.Answers.{Loads, loaded}
 use Rattle.registers.specs.declared.Register.{Register}
-use Rattle.registers.proofs.Loading.{load-numerator, load-valid}
-use Rattle.registers.proofs.Answers.{load-exists, loaded-valid}
+use Rattle.registers.proofs.Loading.{rule-numerator, load-valid}
 use Rattle.periods.specs.Orders.{Order}
 use Rattle.periods.specs.Answers.{Periods, entry}
 use Rattle.walking.specs.Walks.{Loops, statesOf, Walks, walked}
@@ -26,7 +25,7 @@ record Into (p : ℤ) (q : ℕ) (g : Register) : Type 0 where
   p-is : numOf g ≡ p
 
 into : {p : ℤ} {q : ℕ} {g : Register} → Loads p q 0 g → Into p q g
-into {p} {q} {g} (loaded i l m) = record { valid = load-valid p q g i l m; q-is = l .q-is; p-is = load-numerator p q g l }
+into {p} {q} {g} (loaded i l m) = record { valid = load-valid p q g i l m; q-is = l .q-is; p-is = rule-numerator p q g l }
 
 pub loaded-order : (p : ℤ) (q : ℕ) (g : Register) {p' : ℤ} {q' L T : ℕ} → Loads p q 0 g → Lowest p q p' q' → Loops (statesOf g) L T → Order q' T
 loaded-order p q g {p'} {q'} a w s =

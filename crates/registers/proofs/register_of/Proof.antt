@@ -10,7 +10,7 @@ use Rattle.registers.specs.Inner.{StateOf, LoadsTo}
 use Rattle.registers.specs.declared.Register.{Register}
 use Rattle.integers.proofs.Sizes.{back64}
 use Rattle.registers.proofs.States.{numerator-small}
-use Rattle.registers.proofs.Loading.{load-unique, state-load}
+use Rattle.registers.proofs.Loading.{rule-unique, state-load}
 use Rattle.registers.proofs.register_of.Statement.{statement}
 use Rattle.registers.proofs.register_of.Tie as tie
 
@@ -30,7 +30,7 @@ found : (c : tie.After-state-of)
     → _≡_ {A = Register} (record { q = c .before .args .q; cells = c .state-of .result .cells; memory = c .state-of .result .memory }) (c .before .pre .0)
 found c =
     let a = c .before .args in
-    load-unique (a .p) (a .q) _ _ (subst (λ (z : ℤ). LoadsTo z (a .q) (c .state-of .result .cells) (c .state-of .result .memory)) (back (c .before)) (c .state-of .ensures))
+    rule-unique (a .p) (a .q) _ _ (subst (λ (z : ℤ). LoadsTo z (a .q) (c .state-of .result .cells) (c .state-of .result .memory)) (back (c .before)) (c .state-of .ensures))
     (state-load (a .p) (a .q) (c .before .pre .0) (c .before .pre .1))
 
 memory-small : (c : tie.After-state-of) → natAbs (c .state-of .result .memory) ≤ 2 ^ 30
