@@ -6,7 +6,7 @@
 --   word-turn, byte-turn   a turn of each keeps it
 use mathlib.Core.Path.{_≡_, refl, sym, ap, _∙_, subst}
 use mathlib.Core.List.{List, _++_, append-assoc, append-nil}
-use Prim.Native.Nat.{ℕ, suc, _+_, _-_, _*_, _/_, _%_, _^_, _≤_, _<_}
+use Prim.Native.Nat.{ℕ, suc, _+_, _*_, _/_, _%_, _^_, _≤_, _<_}
 use native.Mathlib.Omega.{arith}
 use native.Mathlib.Nat.{lt-suc-self}
 use native.Mathlib.Numerals.{add-one}
@@ -18,8 +18,9 @@ use Rattle.registers.specs.declared.Register.{Register}
 use Rattle.registers.proofs.Validity.{valid-iter, iter-q}
 use Rattle.registers.proofs.States.{numerator-iter, emits, state-unique, numerator-small, iter-add, out-add, out-lt}
 use Rattle.whitening.specs.Whitening.{whiteOf}
-use Rattle.whitening.specs.Inner.{Offset, Inverse, Taken, Carries, mixAt, mixWord}
-use Rattle.whitening.proofs.Words.{offset-small, offset-unique}
+use Rattle.fractions.specs.Inner.{Offset, Inverse}
+use Rattle.whitening.specs.Inner.{Taken, Carries, mixAt, mixWord}
+use Rattle.fractions.proofs.Carrying.{offset-small, offset-unique}
 
 unfoldable pub mixed : Register → List ℕ → ℕ → List ℕ
 mixed g l i = take i l ++ whiteOf (iterOf (8 * i) g) (drop i l)

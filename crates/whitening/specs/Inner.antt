@@ -1,28 +1,19 @@
 -- Words of private functions; no public contract cites them.
 --
---   Offset P p          P carries the numerator p: P = p + 2^62
---   Inverse q v         q is odd, and v its inverse modulo 2^32
 --   Taken P q v w u P'  from the numerator that P carries, u is the next k digits over q, w being 2^k, and P' carries the numerator after them
 --   Carries P q g       P carries the numerator of g, a valid register of q; Carried P q, of some register
 --   mixAt l i k         the bytes l with byte i combined with k
 --   mixWord l i u       the bytes l with bytes i to i + 3 combined with the four bytes of u, lowest first
 use mathlib.Core.Path.{_≡_}
 use mathlib.Core.List.{List}
-use Prim.Native.Nat.{ℕ, _+_, _*_, _/_, _%_, _^_, _<_}
+use Prim.Native.Nat.{ℕ, _+_, _/_, _%_, _^_}
 use lib.Bits.{bitXor}
-use lib.IntN.{ℤ, pos, _+ℤ_}
+use lib.IntN.{ℤ}
 use lib.ListN.{getD, set}
 use Rattle.fractions.specs.Expansion.{iterNum, digitsTo}
+use Rattle.fractions.specs.Inner.{Offset, Inverse}
 use Rattle.registers.specs.Registers.{Valid, numOf}
 use Rattle.registers.specs.declared.Register.{Register}
-
-pub record Offset (P : ℕ) (p : ℤ) : Type 0 where
-  pub is : pos P ≡ p +ℤ pos (2 ^ 62)
-
-pub record Inverse (q v : ℕ) : Type 0 where
-  pub odd : q % 2 ≡ 1
-  pub one : q * v % 2 ^ 32 ≡ 1
-  pub small : v < 2 ^ 32
 
 abbrev pub Taken : ℕ → ℕ → ℕ → ℕ → ℕ → ℕ → Type 0
 Taken P q v w u P' = (k : ℕ) (p : ℤ) → w ≡ 2 ^ k → Inverse q v → Offset P p → (u ≡ digitsTo q k p) × Offset P' (iterNum q k p)

@@ -1,12 +1,13 @@
 // Whitening: bytes combined with what a register emits. The contracts cite Whitening of specs/.
 ghost use mathlib.Core.Path.{_≡_};
-ghost use Prim.Native.Nat.{ℕ, _+_, _*_, _/_, _%_, _^_, _≤_, _<_};
+ghost use Prim.Native.Nat.{_+_, _*_, _/_, _%_, _^_, _≤_, _<_};
 ghost use lib.IntN.{natAbs};
 ghost use lib.ListN.{length};
-ghost use Rattle.registers.specs.Registers.{Valid, iterOf, numOf};
+ghost use Rattle.registers.specs.Registers.{Valid, iterOf};
 ghost use Rattle.registers.specs.declared.Register.{Register};
 ghost use Rattle.whitening.specs.Whitening.{whiteOf, Whitens};
-ghost use Rattle.whitening.specs.Inner.{Offset, Taken, Carries, Carried, mixAt, mixWord};
+ghost use Rattle.fractions.specs.Inner.{Offset};
+ghost use Rattle.whitening.specs.Inner.{Taken, Carries, Carried, mixAt, mixWord};
 use registers::Register;
 
 // The most bytes to whiten in one call.

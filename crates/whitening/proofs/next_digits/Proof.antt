@@ -1,11 +1,26 @@
 -- `whitening::next_digits` meets its contract: the products fit 64 bits, and the word law.
-use Prim.Native.Nat.{ℕ, _-_, _*_, _%_, _^_, _≤_, _<_}
+use Prim.Native.Nat.{ℕ, _*_, _/_, _%_, _^_, _≤_, _<_}
 use native.Mathlib.Omega.{arith}
-use native.Mathlib.Nat.{mul-le-mul, mod-lt}
+use native.Mathlib.Nat.{mul-le-mul, mul-le-mul-left, mod-lt, div-add-mod'}
+use lib.Pow.{pow-mono}
+use mathlib.Core.Logic.{_⊎_, inl, inr}
 use borrow.Author.Needs.{needs}
-use Rattle.whitening.proofs.Words.{small-part, half-at-most, width-le, word-law}
+use Rattle.integers.proofs.Finite.{le-or-gt}
+use Rattle.fractions.proofs.Carrying.{small-part, word-law}
 use Rattle.whitening.proofs.next_digits.Statement.{statement}
 use Rattle.whitening.proofs.next_digits.Tie as tie
+
+half-at-most : (x W : ℕ) → 1 < W → x / W * 2 ≤ x
+half-at-most x W h =
+    let t : x / W * 2 ≤ x / W * W = mul-le-mul-left (x / W) h in
+    omega (arith, div-add-mod' x W)
+
+width-le : (k : ℕ) → 2 ^ k ≤ 2 ^ 32 → k ≤ 32
+width-le k h = go (le-or-gt k 32)
+  where
+    go : (k ≤ 32) ⊎ (32 < k) → k ≤ 32
+    go (inl a) = a
+    go (inr b) = let p : 2 ^ 33 ≤ 2 ^ k = pow-mono {j = k} b in omega arith
 
 abbrev key : tie.Start → ℕ
 key c = c .args .p % c .args .w * c .args .v % c .args .w

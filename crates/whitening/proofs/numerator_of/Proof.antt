@@ -6,7 +6,7 @@ use mir.Syntax.{w64}
 use mir.Val.{SFits}
 use mir.ValLaws.{toZ-ofZ, toZ-pos}
 use Rattle.integers.proofs.Sizes.{fits64}
-use Rattle.whitening.proofs.Words.{lowered, lowered-small}
+use Rattle.fractions.proofs.Carrying.{lowered, lowered-small}
 use Rattle.whitening.proofs.numerator_of.Statement.{statement}
 use Rattle.whitening.proofs.numerator_of.Tie as tie
 

@@ -1,12 +1,11 @@
 -- `whitening::offset_of` meets its contract: the numerator is above -2^62, so the sum is not negative.
 use mathlib.Core.Path.{_≡_, sym, ap, _∙_}
-use Prim.Native.Nat.{_+_}
 use native.Mathlib.Omega.{arith}
 use lib.IntN.{ℤ, pos, _+ℤ_}
 use mir.Syntax.{w64}
 use mir.Val.{toZ, ofZ}
 use mir.ValLaws.{toZ-ofZ, toZ-pos}
-use Rattle.whitening.proofs.Words.{Raised, raised}
+use Rattle.fractions.proofs.Carrying.{Raised, raised}
 use Rattle.whitening.proofs.offset_of.Statement.{statement}
 use Rattle.whitening.proofs.offset_of.Tie as tie
 

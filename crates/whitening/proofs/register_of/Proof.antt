@@ -6,8 +6,8 @@ use mir.Val.{toZ, ofZ}
 use mir.ValLaws.{toZ-ofZ}
 use Rattle.registers.specs.Registers.{numOf}
 use Rattle.registers.proofs.States.{numerator-small}
-use Rattle.whitening.specs.Inner.{Offset}
-use Rattle.whitening.proofs.Words.{offset-small, offset-unique}
+use Rattle.fractions.specs.Inner.{Offset}
+use Rattle.fractions.proofs.Carrying.{offset-small, offset-unique}
 use Rattle.whitening.proofs.register_of.Statement.{statement}
 use Rattle.whitening.proofs.register_of.Tie as tie
 

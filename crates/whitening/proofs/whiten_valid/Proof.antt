@@ -10,8 +10,8 @@ use mir.ValLaws.{toZ-ofZ}
 use Rattle.registers.specs.Registers.{numOf, iterOf}
 use Rattle.registers.proofs.Validity.{facts}
 use Rattle.registers.proofs.States.{numerator-small}
-use Rattle.whitening.specs.Inner.{Offset}
-use Rattle.whitening.proofs.Words.{inverse-of}
+use Rattle.fractions.specs.Inner.{Offset}
+use Rattle.fractions.proofs.Carrying.{inverse-of}
 use Rattle.whitening.proofs.Bytes.{Going, under, word-turn, byte-turn, carries, carries-unique, ended, begun, at-start}
 use Rattle.whitening.proofs.whiten_valid.Statement.{statement}
 use Rattle.whitening.proofs.whiten_valid.Tie as tie

@@ -3,18 +3,16 @@
 --   offset-is   an offset, in parts
 --   word-law    the next k digits and the numerator after them, once over k: 32, 8 and r are instances
 use mathlib.Core.Path.{_≡_, sym, ap, _∙_}
-use mathlib.Core.Logic.{_⊎_, inl, inr}
 use Prim.Native.Nat.{ℕ, _+_, _-_, _*_, _/_, _%_, _^_, _≤_, _<_}
 use native.Mathlib.Omega.{arith}
-use native.Mathlib.Nat.{div-add-mod', mul-le-mul-right, mul-le-mul-left, mul-comm, mul-div-cancel, div-le-of-le-mul, eq-of-mul-eq-mul-right}
-use lib.Pow.{pow-pos, pow-add, pow-mono}
+use native.Mathlib.Nat.{div-add-mod', mul-le-mul-right, mul-comm, mul-div-cancel, div-le-of-le-mul, eq-of-mul-eq-mul-right}
+use lib.Pow.{pow-pos, pow-add}
 use lib.IntN.{ℤ, pos, natAbs, _+ℤ_, _-ℤ_}
 use Rattle.integers.proofs.Parts.{up, down, eq-of, parts-+, parts--, parts, natAbs-is}
-use Rattle.integers.proofs.Finite.{le-or-gt}
 use Rattle.integers.proofs.Modulo.{key-of, cong-of, mod-down, mul-mod-r}
 use Rattle.fractions.specs.Expansion.{iterNum, digitsTo}
 use Rattle.fractions.proofs.Numerators.{Splits, expansion-splits}
-use Rattle.whitening.specs.Inner.{Offset, Inverse}
+use Rattle.fractions.specs.Inner.{Offset, Inverse}
 
 pub offset-is : (P : ℕ) (p : ℤ) → Offset P p → P + down p ≡ 2 ^ 62 + up p
 offset-is P p o = omega (arith, ap up (o .is), ap down (o .is), parts-+ p (pos (2 ^ 62)))
@@ -93,19 +91,6 @@ raised p h =
     let P = 2 ^ 62 + up p - down p in
     let o : Offset (2 ^ 62 + up p - down p) p = offset-of P p (omega (arith, natAbs-is p)) in
     record { by = P; is = o; small = offset-small P p o h }
-
--- ---- sizes that code needs
-pub half-at-most : (x W : ℕ) → 1 < W → x / W * 2 ≤ x
-half-at-most x W h =
-    let t : x / W * 2 ≤ x / W * W = mul-le-mul-left (x / W) h in
-    omega (arith, div-add-mod' x W)
-
-pub width-le : (k : ℕ) → 2 ^ k ≤ 2 ^ 32 → k ≤ 32
-width-le k h = go (le-or-gt k 32)
-  where
-    go : (k ≤ 32) ⊎ (32 < k) → k ≤ 32
-    go (inl a) = a
-    go (inr b) = let p : 2 ^ 33 ≤ 2 ^ k = pow-mono {j = k} b in omega arith
 
 -- ---- and every natural number carries one
 pub lowered : (P : ℕ) → Offset P (pos P -ℤ pos (2 ^ 62))
