@@ -7,6 +7,7 @@
 --   smallest-lowest     it is in lowest terms: a common factor is odd, so the smaller pair would fit too
 --   smallest-certified  a pair inside, in lowest terms, that fits n ≥ 61 bits is the smallest
 --   smallest-settled    where 2 size² < 2^n, every pair inside that fits and is no larger is the same pair
+--   none-some           where no pair fits there are bits: (0, 1) fits none at all
 --   smallest-recovered  from 2 b + 1 bits a pair in lowest terms below 2^b is itself the smallest
 use mathlib.Core.Path.{_≡_, refl, sym, ap, ap₂, _∙_}
 use mathlib.Core.Logic.{_⊎_, inl, inr}
@@ -14,11 +15,12 @@ use Prim.Native.Nat.{ℕ, zero, suc, _+_, _*_, _-_, _/_, _%_, _^_, _≤_, _<_, m
 use native.Mathlib.Omega.{arith}
 use native.Mathlib.Nat.{mul-comm, mul-le-mul-right}
 use lib.Pow.{pow-pos, pow-mono, pow-add}
+use lib.Dec.{lit≤}
 use lib.IntN.{ℤ, pos, negsuc, natAbs, _-ℤ_, _*ℤ_}
 use Rattle.integers.proofs.Coprime.{quot}
-use Rattle.integers.proofs.Ring.{_⊗_, _⊖_, ring4, _≔_}
+use Rattle.integers.proofs.Ring.{#, _⊗_, _⊖_, ring1, ring4, _≔_}
 use Rattle.integers.proofs.Finite.{le-or-gt}
-use Rattle.fractions.specs.Pairs.{limit, Inside, Fits, size, below, Then, NotAfter, Smallest, LowestTerms, SameFraction}
+use Rattle.fractions.specs.Pairs.{limit, Inside, Fits, size, below, Then, NotAfter, Smallest, NoneFits, LowestTerms, SameFraction}
 use Rattle.fractions.proofs.Same.{odd-cancel, same-fraction}
 use Rattle.fractions.proofs.Lowest.{part, odd-left, Multiple, multiple, p-same, lowest-same}
 
@@ -175,3 +177,10 @@ smallest-recovered n A b p q p' q' h i f co lp lq l =
   where
     go : (X : ℕ) → X + 1 ≡ 2 ^ b → size p q ≤ size p' q' → SameFraction p q p' q'
     go X e s = same-fraction n A X p q p' q' (h .fits) f (omega arith) (omega arith) (omega arith) (omega arith) (squares X b n e l)
+
+-- where there are no bits, (0, 1) fits
+pub none-some : (n A : ℕ) → NoneFits n A → 0 < n
+none-some zero A f =
+    let a = pos A *ℤ pos 1 -ℤ pos 0 in
+    absurd (f (pos 0) 1 (record { odd = refl; some = lit≤ tt; q-most = lit≤ tt; p-most = lit≤ tt }) (a, ring1 (λ x. x ≔ # 1 ⊗ x) tt a))
+none-some (suc n) A f = omega arith

@@ -2,14 +2,13 @@
 use mathlib.Core.Path.{_≡_, refl, sym, subst}
 use mathlib.Core.Logic.{inl, inr}
 use mathlib.Core.List.{List, [], _∷_, _++_, append-assoc}
-use Prim.Native.Nat.{ℕ, zero, suc, _≤_, _<_}
+use Prim.Native.Nat.{ℕ, _≤_}
 use native.Mathlib.Omega.{arith}
-use lib.Dec.{lit≤}
-use lib.IntN.{ℤ, pos, _-ℤ_, _*ℤ_}
+use lib.IntN.{ℤ, pos}
 use lib.ListN.{length}
 use Rattle.integers.proofs.Tests.{not-both}
-use Rattle.integers.proofs.Ring.{#, _⊗_, ring1, _≔_}
-use Rattle.fractions.specs.Pairs.{Inside, NoneFits}
+use Rattle.fractions.specs.Pairs.{Inside}
+use Rattle.fractions.proofs.Order.{none-some}
 use Rattle.fractions.specs.declared.Fraction.{Fraction}
 use Rattle.places.specs.Places.{isStore, burst, HasPlace}
 use Rattle.by_meter.specs.ByMeter.{LearnsMeter, meterNumber, meterP, meterQ}
@@ -70,13 +69,6 @@ line-unknown {s} {m} old h e = silence old (unknown-not (subst (learns s m) e h)
 
 bits-of : {s : List ℕ} {m n : ℕ} → HasPlace s m → n ≡ length (burst s m) → (n ≡ 0 → ⊥) → HasBits s m
 bits-of a e z = record { asked = a; some = omega arith }
-
--- where there are no bits, (0, 1) fits
-none-some : (n A : ℕ) → NoneFits n A → 0 < n
-none-some zero A f =
-    let a = pos A *ℤ pos 1 -ℤ pos 0 in
-    absurd (f (pos 0) 1 (record { odd = refl; some = lit≤ tt; q-most = lit≤ tt; p-most = lit≤ tt }) (a, ring1 (λ x. x ≔ # 1 ⊗ x) tt a))
-none-some (suc n) A f = omega arith
 
 none-bits : {s : List ℕ} {m : ℕ} → LearnsMeter s m 3 (pos 0) 0 → HasBits s m
 none-bits {s} {m} (M.none a f) = record { asked = a; some = none-some (length (burst s m)) _ f }
