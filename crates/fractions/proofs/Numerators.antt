@@ -8,7 +8,7 @@
 --   digits-lt         the first n digits are a number below 2^n
 use mathlib.Core.Path.{_≡_, refl, sym, ap, _∙_}
 use mathlib.Core.Logic.{_⊎_, inl, inr}
-use Prim.Native.Nat.{ℕ, zero, suc, _+_, _-_, _*_, _%_, _^_, _≤_, _<_, min}
+use Prim.Native.Nat.{ℕ, zero, suc, _+_, _-_, _*_, _%_, _^_, _≤_, _<_}
 use native.Mathlib.Omega.{arith}
 use native.Mathlib.Nat.{add-zero, add-suc, pow-suc, mod-eq-of-lt, mul-le-mul-right, eq-of-mul-eq-mul-right}
 use native.Mathlib.Numerals.{add-one}
@@ -19,10 +19,6 @@ use Rattle.integers.proofs.Sizes.{odd-lt}
 use Rattle.integers.proofs.Parts.{up, down, eq-of, parts-+, parts--, parts-*pos, parts-half}
 use Rattle.integers.proofs.Modulo.{key-of, inverse}
 use Rattle.fractions.specs.Expansion.{nextNum, iterNum, digitAt, digitsTo}
-
-pub one-part : (z : ℤ) → min (up z) (down z) ≡ 0
-one-part (pos n) = omega arith
-one-part (negsuc n) = omega arith
 
 pub odd-is : (z : ℤ) → oddZ z ≡ (up z + down z) % 2
 odd-is (pos n) = omega arith

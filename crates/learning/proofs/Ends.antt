@@ -27,10 +27,7 @@ use Rattle.learning.specs.Steps.{flip, Finished}
 
 -- ---- what the functions of the end ask
 pub flip-neg : (p q : ℤ) → ltZ q (pos 0) ≡ true → pos 0 -ℤ p ≡ flip p q
-flip-neg p (pos n) e = absurd (not-lt-zero n (ltb-true n 0 e))
-  where
-    not-lt-zero : (n : ℕ) → n < 0 → ⊥
-    not-lt-zero n h = omega arith
+flip-neg p (pos n) e = absurd (let k : n < 0 = ltb-true n 0 e in omega arith)
 flip-neg p (negsuc n) e = ring1 (λ p. # 0 ⊖ p ≔ neg p) tt p
 
 pub flip-pos : (p q : ℤ) → ltZ q (pos 0) ≡ false → p ≡ flip p q

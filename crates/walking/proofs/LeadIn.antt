@@ -21,9 +21,9 @@ use lib.Dec.{T}
 use borrow.Author.Tests.{ltb-false}
 use lib.Signed.{_≤ℤ_, ltZ}
 use Rattle.integers.proofs.Finite.{least, le-or-gt}
-use Rattle.integers.proofs.Parts.{up, down, natAbs-is, le-of, le-to, up-neg, down-neg}
+use Rattle.integers.proofs.Parts.{up, down, natAbs-is, le-of, le-to, up-neg, down-neg, parts}
 use Rattle.fractions.specs.Expansion.{nextNum, iterNum}
-use Rattle.fractions.proofs.Numerators.{step-cases, one-part, iter-add}
+use Rattle.fractions.proofs.Numerators.{step-cases, iter-add}
 use Rattle.walking.specs.Inner.{dist, nearer, Enters}
 
 pub dist-parts : (q : ℕ) (p : ℤ) → dist q p ≡ up p + (down p - q)
@@ -76,16 +76,16 @@ below-odd q b o h = (let e : (q + b) / 2 - q ≡ (b - q) / 2 = omega arith in e)
 
 pub dist-next : (q : ℕ) (p : ℤ) → q % 2 ≡ 1 → dist q (nextNum q p) ≡ nearer q (dist q p)
 dist-next q (pos n) o = dist-parts q r ∙ elim (step-cases q (pos n) o) [
-  | inl s ↦ above-even q n (up r) (down r) (one-part r) (omega (arith, s .is)) ∙ sym (nearer-even q n (omega (arith, s .par)))
-  | inr s ↦ above-odd q n (up r) (down r) (one-part r) (omega (arith, s .is)) ∙ sym (nearer-odd q n (omega (arith, s .par)))
+  | inl s ↦ above-even q n (up r) (down r) (parts r) (omega (arith, s .is)) ∙ sym (nearer-even q n (omega (arith, s .par)))
+  | inr s ↦ above-odd q n (up r) (down r) (parts r) (omega (arith, s .is)) ∙ sym (nearer-odd q n (omega (arith, s .par)))
 ]
   where
     r : ℤ
     r = nextNum q (pos n)
 dist-next q (negsuc n) o = dist-parts q r ∙ elim (step-cases q (negsuc n) o) [
-  | inl s ↦ (let h = half-down (suc n) (up r) (down r) (one-part r) (omega (arith, s .is)) in
+  | inl s ↦ (let h = half-down (suc n) (up r) (down r) (parts r) (omega (arith, s .is)) in
       ap₂ (λ e f. e + (f - q)) (h .0) (h .1) ∙ zero-add _ ∙ below-even q (suc n) o (omega (arith, s .par)))
-  | inr s ↦ (let h = half-down (q + suc n) (up r) (down r) (one-part r) (omega (arith, s .is)) in
+  | inr s ↦ (let h = half-down (q + suc n) (up r) (down r) (parts r) (omega (arith, s .is)) in
       ap₂ (λ e f. e + (f - q)) (h .0) (h .1) ∙ zero-add _ ∙ below-odd q (suc n) o (omega (arith, s .par)))
 ]
   where
@@ -171,7 +171,7 @@ inside-parts q p d = omega (arith, dist-parts q p)
 pub inside-iff : (q : ℕ) (p : ℤ) → dist q p ≡ 0 ↔ (negℤ (pos q) ≤ℤ p) × (p ≤ℤ pos 0)
 inside-iff q p = (
   (λ h. let s = inside-parts q p h in (le-of (negℤ (pos q)) p (omega (arith, up-neg (pos q), down-neg (pos q))), le-of p (pos 0) (omega arith))),
-  (λ h. omega (arith, dist-parts q p, le-to (h .0), le-to (h .1), up-neg (pos q), down-neg (pos q), one-part p)),
+  (λ h. omega (arith, dist-parts q p, le-to (h .0), le-to (h .1), up-neg (pos q), down-neg (pos q), parts p)),
 )
 
 -- ---- as the loop finds it: d is the distance after n steps, and none before was 0

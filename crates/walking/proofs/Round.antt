@@ -13,15 +13,15 @@ use native.Mathlib.Nat.{zero-mod, mod-eq-of-lt, mul-mod-right, eq-of-mul-eq-mul-
 use lib.Pow.{pow-pos}
 use lib.IntN.{ℤ, pos, natAbs, _+ℤ_, _-ℤ_, _*ℤ_}
 use Rattle.integers.proofs.Finite.{le-or-gt}
-use Rattle.integers.proofs.Parts.{up, down, eq-of, natAbs-is, natAbs-*, pos-*}
+use Rattle.integers.proofs.Parts.{up, down, eq-of, natAbs-is, natAbs-*, pos-*, parts}
 use Rattle.integers.proofs.Coprime.{quot, euclid, lowest, two-cancel}
 use Rattle.integers.proofs.Modulo.{cong-of}
 use Rattle.integers.proofs.Equations.{eq-by, z-*, z-sub}
 use Rattle.integers.proofs.Ring.{_⊕_, _⊗_, _⊖_, ring6, _≔_}
 use Rattle.fractions.specs.Pairs.{Lowest}
 use Rattle.fractions.specs.Expansion.{nextNum, iterNum, digitsTo}
-use Rattle.fractions.proofs.Numerators.{step-cases, one-part, iter-add, expansion-splits, split-eq}
-use Rattle.fractions.proofs.Lowest.{part, multiple, lowest-multiple, some-factor}
+use Rattle.fractions.proofs.Numerators.{step-cases, iter-add, expansion-splits, split-eq}
+use Rattle.fractions.proofs.Lowest.{part, lowest-multiple, some-factor}
 use Rattle.periods.proofs.Orders.{power-one-iff}
 use Rattle.walking.specs.Inner.{dist}
 use Rattle.walking.proofs.LeadIn.{inside-parts, inside-stays}
@@ -34,12 +34,12 @@ iter-still q (suc i) p e = ap (nextNum q) (iter-still q i p e) ∙ e
 
 ends-next : (q : ℕ) (p : ℤ) → q % 2 ≡ 1 → up p ≡ 0 → (down p ≡ 0) ⊎ (down p ≡ q) → nextNum q p ≡ p
 ends-next q p o u (inl d) = eq-of _ _ (elim (step-cases q p o) [
-  | inl s ↦ omega (arith, s .is, s .par, one-part (nextNum q p))
-  | inr s ↦ omega (arith, s .is, s .par, one-part (nextNum q p))
+  | inl s ↦ omega (arith, s .is, s .par, parts (nextNum q p))
+  | inr s ↦ omega (arith, s .is, s .par, parts (nextNum q p))
 ])
 ends-next q p o u (inr d) = eq-of _ _ (elim (step-cases q p o) [
   | inl s ↦ (let f : ⊥ = omega (arith, s .par, ap (λ n. n % 2) whole) in absurd f)
-  | inr s ↦ omega (arith, s .is, one-part (nextNum q p))
+  | inr s ↦ omega (arith, s .is, parts (nextNum q p))
 ])
   where
     whole : up p + down p ≡ q
