@@ -23,7 +23,7 @@ pub fn euclid(a: usize) -> Convergent
     requires { ⌜ a < 2 ^ 61 ⌝ }
     ensures { λ x. ⌜ Guess a (x .r) (x .t) (x .minus) ⌝ }
 {
-    let mut r0: usize = 2305843009213693952;
+    let mut r0: usize = 1 << 61;
     let mut r1 = a;
     let mut t0: usize = 0;
     let mut t1: usize = 1;

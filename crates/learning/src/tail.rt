@@ -6,6 +6,7 @@ ghost use lib.Signed.{shrZ};
 ghost use Rattle.bits.specs.Bits.{value};
 ghost use Rattle.fractions.specs.Pairs.{limit, Inside, Fits};
 ghost use Rattle.integers.specs.Numbers.{Decides, Divides};
+ghost use Rattle.learning.specs.Learning.{longest};
 
 // What is left of p: p = A q + 2^i rest, A the value of the first i bits.
 struct Rest {
@@ -49,7 +50,7 @@ fn shifted(d: i64, m: usize) -> Rest
 }
 
 pub fn fits(bytes: &[u8], n: usize, p: i64, q: usize) -> bool
-    requires { ⌜ (n ≤ 4096) × Inside p q ⌝ }
+    requires { ⌜ (n ≤ longest) × Inside p q ⌝ }
     ensures { λ r. ⌜ Decides (Fits n (value (now (bytes .entry)) n) p q) r ⌝ }
 {
     let mut x = Rest { rest: p };
