@@ -9,6 +9,11 @@ ghost use Rattle.fractions.specs.Inner.{Residue, Reduced};
 // The largest q, and the largest |p|, inside the limits.
 pub const LIMIT: u32 = 1073741823;
 
+// The same for p, which has a sign.
+const MOST: i32 = LIMIT as i32;
+
+const LEAST: i32 = -MOST;
+
 // 32 bits for p and q: the limits leave two bits spare, and the firmware that calls has 32-bit words.
 pub struct Fraction {
     pub p: i32,
@@ -36,10 +41,10 @@ pub fn is_inside(p: i32, q: u32) -> bool
     if LIMIT < q {
         return false;
     }
-    if p < -1073741823 {
+    if p < LEAST {
         return false;
     }
-    p <= 1073741823
+    p <= MOST
 }
 
 // p modulo 2^64, so that a negative p enters wrapping arithmetic as its residue.
