@@ -1,3 +1,4 @@
+-- `packing::add_bits` meets its contract: each turn adds one byte of `more`, moved up by the bits that the byte it begins in already has.
 use Prim.Native.Nat.{ℕ, _+_, _-_, _/_, _%_, _*_, _^_}
 use mathlib.Core.Path.{refl, sym, ap, _∙_, subst}
 use native.Mathlib.Omega.{arith}

@@ -1,3 +1,4 @@
+-- `packing::add_byte` meets its contract: the sum is below 256, so the byte that is written is the sum.
 use Prim.Native.Nat.{ℕ, _+_}
 use mathlib.Core.Path.{ap}
 use lib.ListN.{set}

@@ -1,3 +1,4 @@
+-- `packing::add_word` meets its contract: the low byte is added at i, and the high byte, where there is one, at i + 1.
 use Prim.Native.Nat.{ℕ, _+_, _*_, _^_}
 use mathlib.Core.Path.{_≡_, sym, subst}
 use mathlib.Core.List.{List}
