@@ -98,17 +98,14 @@ pub fn read_about(first: &[u8], second: &[u8], meter: u32, ordinal: u32) -> Abou
 pub fn read_part<'a>(first: &'a [u8], second: &'a [u8], meter: u32, ordinal: u32) -> &'a [u8]
     ensures { λ r. ⌜ Part (now (first .entry)) (now (second .entry)) meter ordinal (now r) ⌝ }
 {
-    match read_about(first, second, meter, ordinal) {
-        About::Found(x) => {
-            let start = x.start;
-            let end = start + x.length;
-            if x.antenna == 1 {
-                return &first[start..end];
-            }
-            return &second[start..end];
-        }
-        About::Malformed(_) => return &first[0..0],
-        About::BadMeter => return &first[0..0],
-        About::NoRecord => return &first[0..0],
+    let about = read_about(first, second, meter, ordinal);
+    let About::Found(x) = about else {
+        return &first[0..0];
+    };
+    let start = x.start;
+    let end = start + x.length;
+    if x.antenna == 1 {
+        return &first[start..end];
     }
+    &second[start..end]
 }
