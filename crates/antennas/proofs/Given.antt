@@ -5,11 +5,11 @@
 --   asked-sought   the search answers the question
 --   read-given     an answer with a record tells of one in the first block, as antenna 1, or in the second, as antenna 2
 --   given-inside   its stretch lies inside that block
-use Prim.Native.Nat.{ℕ, zero, suc, _+_, _-_, _*_, _/_, _^_, _≤_, _<_}
-use mathlib.Core.Path.{_≡_, refl, sym, ap, _∙_, subst}
+use Prim.Native.Nat.{ℕ, _+_, _-_, _≤_}
+use mathlib.Core.Path.{_≡_, refl, sym, ap, _∙_}
 use mathlib.Core.Bool.{Bool, true, false, cond}
 use mathlib.Core.Logic.{_⊎_, inl, inr, ⊎-elim}
-use mathlib.Core.List.{List, [], _∷_}
+use mathlib.Core.List.{List, _∷_}
 use native.Mathlib.Omega.{arith}
 use lib.ListN.{length, take, drop}
 use lib.Dec.{eqb}
@@ -17,9 +17,8 @@ use borrow.Author.Tests.{eq-eqb, ne-eqb}
 use Rattle.bits.specs.Bits.{num}
 use Rattle.bits.proofs.Numbers.{length-digits}
 use Rattle.records.specs.declared.Record.{Record}
-use Rattle.records.specs.declared.Refusal.{Refusal}
 use Rattle.records.specs.declared.Form.the-variants as F
-use Rattle.records.specs.Block.{bytesFor, recordBits, blockBytes, payload, Entry, entryOf, parse, formOf}
+use Rattle.records.specs.Block.{bytesFor, payload, Entry, entryOf, parse, formOf}
 use Rattle.records.specs.Named.{named}
 use Rattle.records.proofs.Standing.{Stands}
 use Rattle.records.proofs.Blocks.{RecordsOf, done, next, parse-records, form-parts}

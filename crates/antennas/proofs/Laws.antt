@@ -5,21 +5,19 @@
 --   Agree, answers-agree   the part is as long as the twin says, non-empty where the twin tells of a record and empty where it refuses
 --   Within, read-within    start and length lie inside the block of that antenna, and every number is small
 --   read-more-first, read-more-second, part-more-first, part-more-second   a block with anything well formed behind it: the same record, the same part
-use Prim.Native.Nat.{ℕ, zero, suc, _+_, _-_, _*_, _/_, _≤_, _<_}
+use Prim.Native.Nat.{ℕ, _+_, _-_, _≤_, _<_}
 use mathlib.Core.Path.{_≡_, refl, sym, ap, _∙_, subst}
-use mathlib.Core.Bool.{cond}
 use mathlib.Core.Logic.{_⊎_, inl, inr, ⊎-elim}
-use mathlib.Core.List.{List, [], _∷_, _++_, map}
+use mathlib.Core.List.{List, [], _++_, map}
 use native.Mathlib.Omega.{arith}
 use lib.ListN.{length, take, drop, length-drop}
 use lib.Seq.{length-take-le, take-add, drop-at, drop-drop, take-append-le, drop-append-le}
-use lib.Dec.{eqb}
 use borrow.Author.Tests.{eq-eqb, ne-eqb}
 use Rattle.bits.specs.Bits.{num, digits}
 use Rattle.records.specs.declared.Refusal.{Refusal}
 use Rattle.records.specs.declared.Refusal.the-variants.{TooLong, ShortHeader, WrongMark, BadMeter, BadCount, RunsPast, SpareBit}
 use Rattle.records.specs.declared.Form.the-variants as F
-use Rattle.records.specs.Block.{bytesFor, recordBits, blockBytes, payload, numberOf, placeOf, Entry, entryOf, parse, formOf}
+use Rattle.records.specs.Block.{bytesFor, recordBits, blockBytes, payload, numberOf, Entry, parse, formOf}
 use Rattle.records.specs.Named.{named, bytesOf, moved}
 use Rattle.records.proofs.Standing.{payload-long}
 use Rattle.records.proofs.Blocks.{form-parts, form-append}
@@ -29,10 +27,10 @@ use Rattle.records.proofs.Cond.{yes, no}
 use Rattle.antennas.specs.declared.Seen.{Seen}
 use Rattle.antennas.specs.declared.About.{About}
 use Rattle.antennas.specs.declared.About.the-variants as A
-use Rattle.antennas.specs.Antennas.{Nth, seenOf, readNumber, readPlace, readCount, readAntenna, readStart, readLength, Asked, found, bad-meter, no-record, Reads, by-first, by-second, neither, Read, partOf, Part}
+use Rattle.antennas.specs.Antennas.{Nth, readNumber, readPlace, readCount, readAntenna, readStart, readLength, Asked, found, bad-meter, no-record, Reads, by-first, by-second, neither, Read, partOf, Part}
 use Rattle.antennas.proofs.Ordinals.{nth-append}
 use Rattle.antennas.proofs.Given.{Given, GivenIn, read-given, asked-given, given-antenna, given-stretch, given-inside}
-use Rattle.antennas.proofs.Unique.{reads-numbers, read-about-unique}
+use Rattle.antennas.proofs.Unique.{read-about-unique}
 
 -- ---- the record that a part holds
 pub record Holds (block : List ℕ) (meter ordinal count : ℕ) (bytes : List ℕ) : Type 0 where

@@ -3,8 +3,8 @@
 --   nth-within   an ordinal that names a record is from 1 to the number of records
 --   nth-unique   an ordinal names one record
 --   nth-append   more records behind change none of the ordinals
-use Prim.Native.Nat.{ℕ, zero, suc, _+_, _≤_, _<_}
-use mathlib.Core.Path.{_≡_, refl, sym, ap, _∙_}
+use Prim.Native.Nat.{ℕ, _≤_, _<_}
+use mathlib.Core.Path.{_≡_, refl}
 use mathlib.Core.List.{List, [], _∷_, _++_}
 use native.Mathlib.Omega.{arith}
 use lib.ListN.{length}

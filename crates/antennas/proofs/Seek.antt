@@ -2,12 +2,11 @@
 --
 --   Seeking    what is found in the rest of the block, with so many still to pass, is what is sought in the whole
 --   seek-hit, seek-pass, seek-skip   a record of that meter that is the one, one that is not yet, and one of another meter
-use Prim.Native.Nat.{ℕ, zero, suc, _+_, _-_, _≤_, _<_}
-use mathlib.Core.Path.{_≡_, refl, sym, ap, _∙_, subst}
+use Prim.Native.Nat.{ℕ, _-_, _≤_, _<_}
+use mathlib.Core.Path.{_≡_, sym, ap, _∙_, subst}
 use mathlib.Core.List.{List, [], _∷_}
 use native.Mathlib.Omega.{arith}
 use lib.ListN.{length}
-use lib.Dec.{eqb}
 use borrow.Author.Tests.{eq-eqb, ne-eqb}
 use Rattle.bits.specs.Bits.{num}
 use Rattle.bits.proofs.Numbers.{length-digits}

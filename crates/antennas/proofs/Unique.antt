@@ -3,7 +3,7 @@
 --   asked-unique, reads-unique   one answer to a question, and its numbers are those of the answer
 --   read-about-unique            the twin's answers are equal
 --   read-part-unique             the parts are equal, as lists of bytes
-use Prim.Native.Nat.{ℕ, _+_, _≤_, _<_}
+use Prim.Native.Nat.{ℕ, _<_}
 use mathlib.Core.Path.{_≡_, refl, sym, ap, _∙_}
 use mathlib.Core.Logic.{_⊎_, ⊎-elim}
 use mathlib.Core.List.{List}

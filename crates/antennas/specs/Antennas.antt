@@ -9,7 +9,7 @@
 --   Read first second meter ordinal r  the same, its numbers taken from r
 --   partOf first second r     the part that goes with an answer: "On a refusal the part handed back is empty"
 --   Part first second meter ordinal bytes   the part's bytes, where "a twin question over the same inputs answers the bit count and the antenna"
-use Prim.Native.Nat.{ℕ, zero, suc, _+_, _≤_, _<_}
+use Prim.Native.Nat.{ℕ, suc, _≤_, _<_}
 use mathlib.Core.Path.{_≡_}
 use mathlib.Core.Bool.{cond}
 use mathlib.Core.Logic.{_⊎_}

@@ -1,7 +1,7 @@
 -- What the numbers say of single bits: bit i of a list of bytes is bit i of its number; packing and unpacking are inverse.
 use Prim.Native.Nat.{ℕ, zero, suc, _+_, _*_, _/_, _%_, _^_, _≤_, _<_}
 use mathlib.Core.Path.{_≡_, refl, sym, ap, _∙_, ap₂}
-use mathlib.Core.List.{List, [], _∷_}
+use mathlib.Core.List.{List}
 use mathlib.Core.Logic.{_↔_, ⊎-elim}
 use native.Mathlib.Nat.{pow-succ', div-eq-of-lt, div-div-eq-div-mul, div-add-mod, div-lt-iff-lt-mul, pow-le-pow-right, div-le-self, div-add-mod'}
 use native.Mathlib.Omega.{arith}

@@ -7,7 +7,7 @@
 --   value-lt       value bytes n is below 2 ^ n
 use Prim.Native.Nat.{ℕ, zero, suc, _+_, _*_, _/_, _%_, _^_, _≤_, _<_}
 use mathlib.Core.Path.{_≡_, refl, sym, ap, ap₂, _∙_}
-use mathlib.Core.List.{List, [], _∷_}
+use mathlib.Core.List.{List}
 use native.Mathlib.Nat.{mod-one, add-comm, pow-suc, mul-le-mul-right}
 use native.Mathlib.Omega.{arith}
 use lib.Pow.{mod-pow-add}

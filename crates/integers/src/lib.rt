@@ -1,6 +1,6 @@
 // Numbers alone: what the other crates count with. The contracts cite Numbers of specs/.
 ghost use mathlib.Core.Path.{_≡_};
-ghost use Prim.Native.Nat.{ℕ, _*_, _%_, _^_, _<_};
+ghost use Prim.Native.Nat.{_*_, _%_, _^_, _<_};
 ghost use lib.IntN.{natAbs};
 ghost use Rattle.integers.specs.Numbers.{IsGcd};
 ghost use Rattle.integers.specs.Inner.{Newton};

@@ -1,7 +1,7 @@
 -- A window of at most 32 bits lies in five bytes.
 use Prim.Native.Nat.{ℕ, _+_, _*_, _-_, _/_, _%_, _^_, _≤_}
 use mathlib.Core.Path.{_≡_, sym, ap, _∙_}
-use mathlib.Core.List.{List, [], _∷_}
+use mathlib.Core.List.{List}
 use native.Mathlib.Nat.{div-div-eq-div-mul, div-add-mod}
 use native.Mathlib.Omega.{arith}
 use lib.Pow.{pow-add, mod-pow-add, field, mod-mod-pow}

@@ -1,7 +1,7 @@
 // Bits in bytes, many at a time: reading a window of them, and appending them. Not entry points: their callers in other crates show that the window is small, and
 // that there is room. The contracts cite Bits of the crate `bits`, and Inner of specs/.
 ghost use mathlib.Core.Path.{_≡_};
-ghost use Prim.Native.Nat.{ℕ, _+_, _*_, _<_, _≤_, _%_, _^_};
+ghost use Prim.Native.Nat.{_+_, _*_, _<_, _≤_, _%_, _^_};
 ghost use lib.ListN.{length, getD, set};
 ghost use Rattle.bits.specs.Bits.{num, digits, window};
 ghost use Rattle.packing.specs.Inner.{fiveFrom, WordFits, MoreFits};

@@ -1,6 +1,6 @@
 // The order of two pairs of sizes. Not entry points: other crates call them for pairs that fit.
 ghost use mathlib.Core.Path.{_≡_};
-ghost use Prim.Native.Nat.{ℕ, max};
+ghost use Prim.Native.Nat.{max};
 ghost use Rattle.reduction.specs.Vectors.{Ordered};
 
 pub fn larger(a: u64, b: u64) -> u64

@@ -1,6 +1,6 @@
 // The digits of an expansion, one by one, and what is left of the numerator.
 ghost use mathlib.Core.Path.{_≡_};
-ghost use Prim.Native.Nat.{ℕ, _+_, _*_, _^_, _≤_, _<_};
+ghost use Prim.Native.Nat.{_+_, _*_, _^_, _≤_, _<_};
 ghost use lib.IntN.{natAbs};
 ghost use Rattle.integers.specs.Numbers.{oddZ};
 ghost use Rattle.fractions.specs.Expansion.{nextNum, iterNum, digitsTo};

@@ -1,6 +1,6 @@
 // The sums over the taps. Digit k of q + 1 is the tap q_k, for k at least 1.
 ghost use mathlib.Core.Path.{_≡_};
-ghost use Prim.Native.Nat.{ℕ, _+_, _*_, _^_, _≤_, _<_};
+ghost use Prim.Native.Nat.{_+_, _*_, _^_, _≤_, _<_};
 ghost use Rattle.integers.specs.Numbers.{log2};
 ghost use Rattle.taps.specs.Sums.{tapsTo, overTo};
 

@@ -4,7 +4,7 @@
 // the lead-in takes at most some 61 turns on a number; from inside, as many steps come round as the order of two modulo the
 // denominator in lowest terms.
 ghost use mathlib.Core.Path.{_≡_};
-ghost use Prim.Native.Nat.{ℕ, _%_, _^_, _≤_, _<_};
+ghost use Prim.Native.Nat.{_%_, _^_, _≤_, _<_};
 ghost use lib.IntN.{natAbs};
 ghost use Rattle.registers.specs.Registers.{Valid};
 ghost use Rattle.walking.specs.Walks.{Loops, statesOf, Walks, numberOf, leadInOf, periodOf, sumOf};

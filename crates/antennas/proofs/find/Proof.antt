@@ -1,7 +1,7 @@
 -- `antennas::find` meets its contract: what is found in the rest of the block from `at` on, with `left` still to count, is what is sought in the whole.
 -- The measure is the bytes left.
-use Prim.Native.Nat.{ℕ, _+_, _-_, _≤_, _<_}
-use mathlib.Core.Path.{_≡_, refl, sym, ap, _∙_}
+use Prim.Native.Nat.{_-_}
+use mathlib.Core.Path.{sym, ap, _∙_}
 use native.Mathlib.Omega.{arith}
 use lib.ListN.{length}
 use borrow.Author.Needs.{needs}

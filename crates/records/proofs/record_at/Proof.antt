@@ -1,5 +1,5 @@
 -- `records::record_at` meets its contract: the two tests on the length, then the header by its three numbers.
-use Prim.Native.Nat.{ℕ, _-_}
+use Prim.Native.Nat.{ℕ}
 use mathlib.Core.Path.{_≡_, sym, _∙_}
 use mathlib.Core.List.{List}
 use borrow.Author.Tests.{le-ltb, lt-ltb, le-leb, lt-leb}

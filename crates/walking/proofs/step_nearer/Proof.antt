@@ -1,6 +1,5 @@
 -- `walking::step_nearer` meets its contract: by the parity of d.
 use mathlib.Core.Path.{sym}
-use Prim.Native.Nat.{_-_}
 use native.Mathlib.Omega.{arith}
 use Rattle.walking.proofs.LeadIn.{nearer-even, nearer-odd}
 use Rattle.walking.proofs.step_nearer.Statement.{statement}

@@ -1,6 +1,5 @@
 -- `periods::order::lowered` meets its contract: r stays a multiple of the order for as long as 2^r stays 1.
 use mathlib.Core.Path.{sym, _∙_}
-use Prim.Native.Nat.{_-_}
 use native.Mathlib.Omega.{arith}
 use native.Mathlib.Nat.{div-lt-self}
 use Rattle.periods.proofs.Certificate.{Lowering, lowering-start, lowering-step, lowered-none, lowered-stuck}
