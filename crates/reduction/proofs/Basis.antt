@@ -47,9 +47,6 @@ module _ {A T : ℤ} {f g : Vect} (B : Basis A T f g) (c d : ℤ) where
   even-q : Even d → Even (comb c d f g .q)
   even-q h = par4 (λ c d fq gq. ev fq ⇒ od gq ⇒ ev d ⇒ ev (c ⊗ fq ⊕ d ⊗ gq)) tt c d (f .q) (g .q) (B .even-f) (B .odd-g) h
 
-  even-d : Even (comb c d f g .q) → Even d
-  even-d h = par4 (λ c d fq gq. ev fq ⇒ od gq ⇒ ev (c ⊗ fq ⊕ d ⊗ gq) ⇒ ev d) tt c d (f .q) (g .q) (B .even-f) (B .odd-g) h
-
   odd-rest : Odd c → Even d → Odd (comb c d f g .r)
   odd-rest h k = par4 (λ c d fr gr. od fr ⇒ od c ⇒ ev d ⇒ od (c ⊗ fr ⊕ d ⊗ gr)) tt c d (f .r) (g .r) (B .odd-r) h k
 
@@ -73,9 +70,6 @@ module _ {A T : ℤ} {f g : Vect} (B : Basis A T f g) (v : Vect) where
     (λ h. odd-d B (fac-f f g v) (fac-g f g v) (subst Odd (basis-q f g v (B .unit)) h)),
     (λ h. subst Odd (sym (basis-q f g v (B .unit))) (odd-q B (fac-f f g v) (fac-g f g v) h)),
   )
-
-  spans-even : Even (v .q) → Even (fac-g f g v)
-  spans-even h = even-d B (fac-f f g v) (fac-g f g v) (subst Even (basis-q f g v (B .unit)) h)
 
 -- H1 and H2 over the factors, from the state
 module _ {M : ℕ} {A T : ℤ} {f g : Vect} (R : Reduced M A T f g) where

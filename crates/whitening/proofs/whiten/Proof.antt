@@ -67,9 +67,6 @@ WhitenBy 𝓤 H A mem run = tripleOf 𝓤 H A whiten-by.signature (whiten-by.spe
 abbrev rv : Register → Val
 rv = LL.val R.the-type R′.the-laws
 
-abbrev tv : Whitened → Val
-tv = LL.val T.the-type T′.the-laws
-
 module _ {M : Type 1} (𝓤 : URA M) (H : Heap 𝓤) (A : Atoms 𝓤) (W : Given 𝓤 H A) (at-mem : Memory → SProp 𝓤) (run : Routine → Fun 𝓤) (κ κ′ : Lft) (q q′ : Share) (b o : ℕ) (γ : GName) (h : Register) (b′ o′ : ℕ) (γ′ : GName) (ys : List ℕ) where
   abbrev x : RefT (List ℕ)
   x = record { ptr = (b′, o′); name = γ′; now = ys }
