@@ -29,7 +29,7 @@ use Rattle.walking.specs.Walks.{Loops, statesOf, Walks, walked, past}
 use Rattle.walking.specs.Inner.{dist, Enters}
 use Rattle.walking.proofs.LeadIn.{enters-zero, enters-suc}
 use Rattle.walking.proofs.Walks.{walk-of}
-use Rattle.demands.proofs.Bursts.{learnsb, learns-sound, packed}
+use Rattle.demands.proofs.Bursts.{insideb, inside-sound, fitsb, fits-sound, learnsb, learns-sound, packed}
 use Rattle.demands.proofs.Loaded.{loadsb, loads-sound}
 
 pub data Row : Type 0 where

@@ -8,7 +8,6 @@
 --   Recovered g p q number p' q' m k     the conclusions: what learning by meter and loading answer, and what the loaded register does
 --   whole-way                            the one leads to the other
 use mathlib.Core.Path.{_≡_, refl, sym, ap, ap₂, _∙_, subst, subst₂}
-use mathlib.Core.Bool.{Bool, true, false}
 use mathlib.Core.Logic.{inl, inr}
 use mathlib.Core.List.{List, [], _∷_}
 use Prim.Native.Nat.{ℕ, _+_, _*_, _%_, _^_, _≤_, _<_}
@@ -102,10 +101,10 @@ module _ (g : Register) (p : ℤ) (q b n meter : ℕ) (blocks : List (List ℕ))
   learns number p' q' (answer a f) =
       let r = read-parts g p q (h .read) in
       (refl, smallest-recovered (length (burst t meter)) (num 2 (burst t meter)) b p' q' p q f (r .inside) place-fits (r .lowest .lowest) (h .p-below) (h .q-below) (omega (arith, place-count, h .enough)))
-  whole-learns number p' q' (damaged d) = absurd (not-both (isStore t) (runs-kept fresh blocks t fresh-store (h .runs)) d)
-  whole-learns number p' q' (unknown d (inl e)) = absurd (omega (arith, h .meter-low))
-  whole-learns number p' q' (unknown d (inr e)) = absurd (omega (arith, h .meter-high))
-  whole-learns number p' q' (none a f) = absurd (f p q (read-parts g p q (h .read) .inside) place-fits)
+  learns number p' q' (damaged d) = absurd (not-both (isStore t) (runs-kept fresh blocks t fresh-store (h .runs)) d)
+  learns number p' q' (unknown d (inl e)) = absurd (omega (arith, h .meter-low))
+  learns number p' q' (unknown d (inr e)) = absurd (omega (arith, h .meter-high))
+  learns number p' q' (none a f) = absurd (f p q (read-parts g p q (h .read) .inside) place-fits)
 
 -- ---- for ever
 module _ (g k : Register) (p : ℤ) (q : ℕ) (r : ReadsBack g 0 p q) (l : Loads p q 0 k) where

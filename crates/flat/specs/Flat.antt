@@ -5,12 +5,11 @@
 --   noFraction n, noRegister n, noWalk n, noRecord n place   a refusal, with 0 in every other field
 --   NarrowPlace x, NarrowRecord x   the sizes and positions of an answer fit the 32 bits of their fields
 use Prim.Native.Nat.{ℕ, _^_, _<_}
-use lib.IntN.{ℤ, pos}
+use lib.IntN.{pos}
 use Rattle.fractions.specs.declared.Output.{Output}
 use Rattle.fractions.specs.Answers as word
 use Rattle.learning.specs.declared.Learned.{Learned}
 use Rattle.learning.specs.Learning as learning
-use Rattle.registers.specs.declared.Register.{Register}
 use Rattle.registers.specs.declared.Stepped as step
 use Rattle.registers.specs.declared.Loaded as load
 use Rattle.registers.specs.declared.ReadBack.{ReadBack}

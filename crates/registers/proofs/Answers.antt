@@ -5,6 +5,8 @@
 --   steps-same, loads-same, reads-same, sheets-same
 --                    the same of the numbers that the relations are between
 --   load-emits       demand 2: the register loaded from a pair, stepped n times, emits the first n bits of p/q, for every n
+--   load-exists      every pair inside the limits loads, and load-accepted, is not refused
+--   loaded-valid     a loaded register is valid
 --   load-numerator   its numerator is p
 --   load-read-back   reading back a loaded pair gives its lowest terms, and is not refused
 --   read-back-emits  loading what was read back emits the same bits
@@ -14,9 +16,9 @@ use native.Mathlib.Omega.{arith}
 use lib.IntN.{ℤ, pos, natAbs, negℤ, _+ℤ_}
 use Rattle.integers.proofs.Finite.{least-unique}
 use Rattle.fractions.specs.Pairs.{Inside, Lowest}
-use Rattle.fractions.specs.Expansion.{digitsTo}
+use Rattle.fractions.specs.Expansion.{iterNum, digitsTo}
 use Rattle.fractions.proofs.Lowest.{lowest-unique, inside-lowest}
-use Rattle.registers.specs.Registers.{Load, numOf, outTo}
+use Rattle.registers.specs.Registers.{cellCount, Valid, Load, numOf, outTo}
 use Rattle.registers.specs.Answers.{Steps, stepped, stepNumber, stepBit, stepRegister, Loads, loaded, wide, loadNumber, loadRegister, ReadsBack, pair, readNumber, readP, readQ, Sheets, sheet, sheetNumber, sheetCells, sheetBits}
 use Rattle.registers.specs.Answers as A
 use Rattle.registers.specs.declared.Register.{Register}
@@ -28,8 +30,10 @@ use Rattle.registers.specs.declared.ReadBack.{ReadBack}
 use Rattle.registers.specs.declared.ReadBack.the-variants as Read
 use Rattle.registers.specs.declared.StorageSheet.{StorageSheet}
 use Rattle.registers.specs.declared.StorageSheet.the-variants as Sheet
+use Rattle.taps.specs.Sums.{overTo}
+use Rattle.registers.proofs.Memory.{load-narrow}
 use Rattle.registers.proofs.States.{emits}
-use Rattle.registers.proofs.Loading.{rule-unique, rule-numerator, load-valid}
+use Rattle.registers.proofs.Loading.{rule-unique, rule-numerator, load-valid, load-is}
 use Rattle.fractions.proofs.Expansion.{digits-same}
 
 -- ---- step
@@ -76,14 +80,14 @@ pub load-exists : (p : ℤ) (q : ℕ) → Inside p q → (g : Register) × Loads
 load-exists p q i =
     let a = digitsTo q (cellCount q) p in
     let m = negℤ (iterNum q (cellCount q) p +ℤ pos (overTo q a (cellCount q) (cellCount q))) in
-    let l = Rule.load-is p q a m (i .odd) refl refl in
+    let l = load-is p q a m (i .odd) refl refl in
     (record { q = q; cells = a; memory = m }, loaded i l (load-narrow p q (record { q = q; cells = a; memory = m }) i l))
 
 pub load-accepted : (p : ℤ) (q n : ℕ) (g : Register) → Inside p q → Loads p q n g → n ≡ 0
 load-accepted p q n g i h = loads-same h (load-exists p q i .1) .0
 
 pub loaded-valid : (p : ℤ) (q : ℕ) (g : Register) → Loads p q 0 g → Valid g
-loaded-valid p q g (loaded i l m) = Rule.load-valid p q g i l m
+loaded-valid p q g (loaded i l m) = load-valid p q g i l m
 
 pub load-emits : (n : ℕ) (p : ℤ) (q : ℕ) (g : Register) → Loads p q 0 g → outTo n g ≡ digitsTo q n p
 load-emits n p q g (loaded i l m) = emits n g (load-valid p q g i l m) ∙ ap₂ (λ (x : ℕ) (z : ℤ). digitsTo x n z) (l .q-is) (rule-numerator p q g l)

@@ -13,6 +13,7 @@ use Rattle.registers.specs.Registers.{Valid, numOf}
 use Rattle.registers.specs.Answers.{Loads, loaded}
 use Rattle.registers.specs.declared.Register.{Register}
 use Rattle.registers.proofs.Loading.{rule-numerator, load-valid}
+use Rattle.registers.proofs.Answers.{load-exists, loaded-valid}
 use Rattle.periods.specs.Orders.{Order}
 use Rattle.periods.specs.Answers.{Periods, entry}
 use Rattle.walking.specs.Walks.{Loops, statesOf, Walks, walked}
