@@ -9,6 +9,7 @@ import random
 from cases import change, checksum, data, name, write
 
 PLACE, BITS, STORE, BLOCK = 514, 4096, 16448, 16384
+EIGHT = ["".join(str(byte >> i & 1) for i in range(8)) for byte in range(256)]  # the bits of a byte, lowest first
 
 
 class No(Exception):
@@ -27,7 +28,7 @@ def decode(s):
     for k in range(32):
         p = s[PLACE * k : PLACE * (k + 1)]
         count = word(p, 0)
-        bits = "".join(str(byte >> i & 1) for byte in p[2:] for i in range(8))
+        bits = "".join(EIGHT[byte] for byte in p[2:])
         if count > BITS or "1" in bits[count:]:
             raise No(10, 0)
         places.append(bits[:count])
@@ -62,7 +63,7 @@ def records(b):
         body = b[at + 6 : at + 6 + size]
         if len(body) < size:
             raise No(12, at)
-        bits = "".join(str(byte >> i & 1) for byte in body for i in range(8))
+        bits = "".join(EIGHT[byte] for byte in body)
         if "1" in bits[count:]:
             raise No(16, at)
         yield meter, bits[:count], at
