@@ -2,7 +2,7 @@
 --
 --   limit                   "B is 1,073,741,823 (2^30 - 1)."
 --   Inside p q              "A pair (p, q) is inside the limits when q is odd, 1 <= q <= B and -B <= p <= B."
---   Fits n A p q            "It fits a burst of n bits with value A when A·q - p is divisible by 2^n."
+--   Fits n A p q            "It fits a burst of n bits with value A (the sum of bit i times 2^i) when A·q - p is divisible by 2^n."
 --   size p q                "Its size is the larger of |p| and q."
 --   NotAfter p q p' q'      "least size; among those, least |p|; then least q; then p not negative"
 --   Smallest n A p q        "the fitting pair inside the limits with least size; ..": the answer for a burst

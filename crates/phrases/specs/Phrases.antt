@@ -2,7 +2,7 @@
 --
 --   spaced field                   a field and the space behind it: "Fields, one space between"
 --   refusedText n                  "refused N"
---   placedText n p                 the same "with " at P" where there is a place": "A refused block prints only "refused N at P"."
+--   placedText n p                 the same with its place: "A refused block prints only "refused N at P"."
 --   Piece old at text most new r   the text was written at `at`, r is the position behind it, and it has at most `most` bytes
 use mathlib.Core.List.{List, [], _∷_, _++_}
 use Prim.Native.Nat.{ℕ, _≤_}

@@ -1,4 +1,4 @@
--- What the program `read` prints for one question: "antenna, bit count and the payload in hexadecimal, or "refused N" with " at P" where there is a place".
+-- What the program `read` prints for one question: antenna, bit count and the payload in hexadecimal, or "refused N", and " at P" behind it where there is a place.
 --
 --   hexOf bytes          two digits for each byte, 0 to 9 and A to F, the high one first
 --   lineOf r part        the line for an answer and its part, without the line end

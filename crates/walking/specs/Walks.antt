@@ -3,7 +3,7 @@
 --   statesOf g n     the state after n steps
 --   Loops s L T      "Lead-in is the least L, and period the least T >= 1, for which the state after L+T steps equals the state after L."
 --   numberOf r, leadInOf r, periodOf r, sumOf r   the number and the values of each case of `Walked`
---   Walks g allowance number lead-in period sum   "It answers L, T and L+T, or refuses when L+T exceeds the allowance."
+--   Walks g allowance number lead-in period sum   "A walk is given an allowance of 0 to 2^32 - 1 steps. It answers L, T and L+T, or refuses when L+T exceeds the allowance."
 -- The law `walk-exists` says that every valid register has its L and T, `walk-unique` that an answer is one.
 use mathlib.Core.Path.{_≡_}
 use Prim.Native.Nat.{ℕ, _+_, _≤_, _<_}
