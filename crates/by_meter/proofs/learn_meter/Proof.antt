@@ -23,7 +23,7 @@ asked : (c : tie.Else3) → HasPlace (c .before .before .before .before .before 
 asked c = record {
   store = sym (c .before .before .before .is-store .ensures) ∙ not-false (c .before .before .before .is-store .result) (c .before .before .if1 .left);
   low = omega (arith, c .before .if2 .left);
-  high = c .if3 .left;
+  high = omega (arith, c .if3 .left);
 }
 
 -- so the place is inside the store, and the part that is lent to learning holds the meter's burst
