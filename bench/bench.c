@@ -249,8 +249,7 @@ static uint32_t walk_plain(unsigned i)
 static void bench_walking(uint32_t q, const char *what)
 {
     call *calls[COLUMNS] = {walk_library, walk_plain, NULL};
-    cj_loaded loaded = cj_load(-1, q);
-    walking = (cj_register){loaded.q, loaded.cells, loaded.memory};
+    walking = cj_load(-1, q).state;
     must_be_same("walking", walk_library(0) == q - 1 && (q > 1u << 20 || walk_plain(0) == q - 1));
     row(what, calls);
 }

@@ -44,7 +44,7 @@ int main(void)
 
     cj_loaded loaded = cj_load(pair.p, pair.q);
     expect_ok("load", loaded.refusal);
-    cj_register r = {loaded.q, loaded.cells, loaded.memory};
+    cj_register r = loaded.state;
     printf("register: q %u, cells %u, memory %d\n", (unsigned)r.q, (unsigned)r.cells, (int)r.memory);
 
     cj_walked walked = cj_walk(r, 65536);

@@ -86,21 +86,17 @@ typedef struct cj_fraction {
     uint32_t q;
 } cj_fraction;
 
-/* A loaded register: its fields after the refusal are those of cj_register. */
+/* A loaded register. */
 typedef struct cj_loaded {
     uint32_t refusal;
-    uint32_t q;
-    uint32_t cells;
-    int32_t memory;
+    cj_register state;
 } cj_loaded;
 
 /* The bit that was emitted, 0 or 1, and the register after the step. */
 typedef struct cj_stepped {
     uint32_t refusal;
     uint32_t bit;
-    uint32_t q;
-    uint32_t cells;
-    int32_t memory;
+    cj_register state;
 } cj_stepped;
 
 /* Lead-in, period, and the two together. */
@@ -178,7 +174,7 @@ cj_loaded cj_load(int32_t p, uint32_t q);
 
 /*
  * One step: the bit that comes out, and the register after it.
- * Refuses: CJ_REGISTER_INVALID, and hands q, cells and memory back as given (bit 0).
+ * Refuses: CJ_REGISTER_INVALID, and hands the register back as given (bit 0).
  */
 cj_stepped cj_step(cj_register r);
 

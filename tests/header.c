@@ -17,16 +17,12 @@ AT(fraction_q, cj_fraction, q, 8);
 
 HOLDS(loaded_size, sizeof(cj_loaded) == 16);
 AT(loaded_refusal, cj_loaded, refusal, 0);
-AT(loaded_q, cj_loaded, q, 4);
-AT(loaded_cells, cj_loaded, cells, 8);
-AT(loaded_memory, cj_loaded, memory, 12);
+AT(loaded_state, cj_loaded, state, 4);
 
 HOLDS(stepped_size, sizeof(cj_stepped) == 20);
 AT(stepped_refusal, cj_stepped, refusal, 0);
 AT(stepped_bit, cj_stepped, bit, 4);
-AT(stepped_q, cj_stepped, q, 8);
-AT(stepped_cells, cj_stepped, cells, 12);
-AT(stepped_memory, cj_stepped, memory, 16);
+AT(stepped_state, cj_stepped, state, 8);
 
 HOLDS(walked_size, sizeof(cj_walked) == 16);
 AT(walked_refusal, cj_walked, refusal, 0);

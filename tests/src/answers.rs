@@ -34,9 +34,7 @@ pub struct Fraction {
 #[derive(Clone, Copy, PartialEq, Eq, Debug, Default)]
 pub struct Loaded {
     pub refusal: u32,
-    pub q: u32,
-    pub cells: u32,
-    pub memory: i32,
+    pub state: Register,
 }
 
 #[repr(C)]
@@ -44,9 +42,7 @@ pub struct Loaded {
 pub struct Stepped {
     pub refusal: u32,
     pub bit: u32,
-    pub q: u32,
-    pub cells: u32,
-    pub memory: i32,
+    pub state: Register,
 }
 
 #[repr(C)]

@@ -1,6 +1,6 @@
 //! What the listing program prints for a block.
 
-use crate::answers::{Register, STORE_BYTES};
+use crate::answers::STORE_BYTES;
 use crate::registers::{length, load};
 use crate::store::{bursts, learn_meter, take};
 use crate::walking::walk;
@@ -15,10 +15,9 @@ fn line(store: &[u8], meter: usize, count: usize) -> String {
     }
     let loaded = load(pair.p, pair.q);
     assert!(loaded.refusal == 0, "a learned pair loads");
-    let register = Register { q: loaded.q, cells: loaded.cells, memory: loaded.memory };
-    let walked = walk(register, ALLOWANCE);
+    let walked = walk(loaded.state, ALLOWANCE);
     let last = if walked.refusal == 0 { format!("{} {}", walked.lead, walked.period) } else { "- -".to_string() };
-    format!("{meter} {count} {} {} {} {} {last}\n", pair.p, pair.q, length(pair.q), loaded.memory)
+    format!("{meter} {count} {} {} {} {} {last}\n", pair.p, pair.q, length(pair.q), loaded.state.memory)
 }
 
 /// "It reads a block on standard input into a fresh store and prints, by rising meter number, each meter with bits."

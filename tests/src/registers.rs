@@ -88,17 +88,16 @@ pub fn load(p: i32, q: u32) -> Loaded {
     if memory.abs() > MOST_MEMORY as i128 {
         return Loaded { refusal: 8, ..Loaded::default() };
     }
-    Loaded { refusal: 0, q, cells, memory: memory as i32 }
+    Loaded { refusal: 0, state: Register { q, cells, memory: memory as i32 } }
 }
 
 /// "Step: 5"; "a register taken by value comes back as it was given."
 pub fn step(register: Register) -> Stepped {
     if !is_valid(register) {
-        let Register { q, cells, memory } = register;
-        return Stepped { refusal: 5, bit: 0, q, cells, memory };
+        return Stepped { refusal: 5, bit: 0, state: register };
     }
-    let (bit, Register { q, cells, memory }) = stepped(register);
-    Stepped { refusal: 0, bit: bit as u32, q, cells, memory }
+    let (bit, state) = stepped(register);
+    Stepped { refusal: 0, bit: bit as u32, state }
 }
 
 /// "Read back: 5, 7."
@@ -137,15 +136,15 @@ mod tests {
     fn loaded(p: i32, q: u32) -> Register {
         let answer = load(p, q);
         assert_eq!(answer.refusal, 0);
-        Register { q: answer.q, cells: answer.cells, memory: answer.memory }
+        answer.state
     }
 
     #[test]
     fn bench_values() {
-        assert_eq!(load(1, 1), Loaded { refusal: 0, q: 1, cells: 1, memory: -1 });
-        assert_eq!(load(2, 1), Loaded { refusal: 0, q: 1, cells: 0, memory: -1 });
-        assert_eq!(load(-1, 37), Loaded { refusal: 0, q: 37, cells: 19, memory: 0 });
-        assert_eq!(load(-5, 15), Loaded { refusal: 0, q: 15, cells: 5, memory: 0 });
+        assert_eq!(load(1, 1), Loaded { refusal: 0, state: Register { q: 1, cells: 1, memory: -1 } });
+        assert_eq!(load(2, 1), Loaded { refusal: 0, state: Register { q: 1, cells: 0, memory: -1 } });
+        assert_eq!(load(-1, 37), Loaded { refusal: 0, state: Register { q: 37, cells: 19, memory: 0 } });
+        assert_eq!(load(-5, 15), Loaded { refusal: 0, state: Register { q: 15, cells: 5, memory: 0 } });
         assert_eq!(read_back(loaded(-5, 15)), Fraction::of(-1, 3));
     }
 
@@ -192,7 +191,10 @@ mod tests {
         assert_eq!(read_back(Register { q: 1, cells: 0, memory: 0 }), Fraction::of(0, 1));
         assert_eq!(read_back(Register { q: 1, cells: 0, memory: 1 << 30 }), Fraction::refused(7));
         assert_eq!(read_back(Register { q: 1, cells: 2, memory: 0 }), Fraction::refused(5));
-        assert_eq!(step(Register { q: 2, cells: 9, memory: -7 }), Stepped { refusal: 5, bit: 0, q: 2, cells: 9, memory: -7 });
+        assert_eq!(
+            step(Register { q: 2, cells: 9, memory: -7 }),
+            Stepped { refusal: 5, bit: 0, state: Register { q: 2, cells: 9, memory: -7 } }
+        );
         assert_eq!(load(LIMIT as i32, LIMIT as u32).refusal, 0);
         assert_eq!(load(-(1 << 30), 1).refusal, 4);
     }

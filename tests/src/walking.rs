@@ -93,8 +93,7 @@ mod tests {
     use crate::registers::{length, load};
 
     fn loaded(p: i32, q: u32) -> Register {
-        let answer = load(p, q);
-        Register { q: answer.q, cells: answer.cells, memory: answer.memory }
+        load(p, q).state
     }
 
     #[test]

@@ -21,7 +21,7 @@ use Rattle.walking.specs.Walks.{Walks}
 use Rattle.walking.proofs.Walks.{walks-unique}
 use Rattle.antennas.specs.Antennas.{readNumber, readPlace, readCount, readAntenna, readStart, readLength}
 use Rattle.antennas.proofs.Unique.{reads-unique, reads-numbers}
-use Rattle.capi.specs.Flat.{registerOf, Takes, Reading}
+use Rattle.capi.specs.Flat.{Takes, Reading}
 use Rattle.flat.specs.declared.Fraction.{Fraction}
 use Rattle.flat.specs.declared.Loaded.{Loaded}
 use Rattle.flat.specs.declared.Stepped.{Stepped}
@@ -46,11 +46,11 @@ pub read-back-unique : (g : Register) (r s : Fraction) → ReadsBack g (r .refus
 read-back-unique g r s h k = let e = reads-same h k in fraction-same r s (e .0) (e .1) (e .2)
 
 -- ---- registers
-pub load-unique : (p : ℤ) (q : ℕ) (r s : Loaded) → Loads p q (r .refusal) (registerOf (r .q) (r .cells) (r .memory)) → Loads p q (s .refusal) (registerOf (s .q) (s .cells) (s .memory)) → r ≡ s
-load-unique p q r s h k = let e = loads-same h k in λ i. record { refusal = e .0 i; q = e .1 i .q; cells = e .1 i .cells; memory = e .1 i .memory }
+pub load-unique : (p : ℤ) (q : ℕ) (r s : Loaded) → Loads p q (r .refusal) (r .state) → Loads p q (s .refusal) (s .state) → r ≡ s
+load-unique p q r s h k = let e = loads-same h k in λ i. record { refusal = e .0 i; state = e .1 i }
 
-pub step-unique : (g : Register) (r s : Stepped) → Steps g (r .refusal) (r .bit) (registerOf (r .q) (r .cells) (r .memory)) → Steps g (s .refusal) (s .bit) (registerOf (s .q) (s .cells) (s .memory)) → r ≡ s
-step-unique g r s h k = let e = steps-same h k in λ i. record { refusal = e .0 i; bit = e .1 i; q = e .2 i .q; cells = e .2 i .cells; memory = e .2 i .memory }
+pub step-unique : (g : Register) (r s : Stepped) → Steps g (r .refusal) (r .bit) (r .state) → Steps g (s .refusal) (s .bit) (s .state) → r ≡ s
+step-unique g r s h k = let e = steps-same h k in λ i. record { refusal = e .0 i; bit = e .1 i; state = e .2 i }
 
 pub sheet-unique : (g : Register) (r s : Storage) → Sheets g (r .refusal) (r .cells) (r .«memory_bits») → Sheets g (s .refusal) (s .cells) (s .«memory_bits») → r ≡ s
 sheet-unique g r s h k = let e = sheets-same h k in λ i. record { refusal = e .0 i; cells = e .1 i; «memory_bits» = e .2 i }

@@ -1,20 +1,14 @@
 -- The flat answers of the C interface. Their numbers are those of the library's own relations (Learns, LearnsMeter, ReadsBack, Loads, Steps, Walks, Sheets,
--- Periods, Outputs, Whitens, Reads); what is added is how the fields make a register, and taking a block and reading two in flat numbers.
+-- Periods, Outputs, Whitens, Reads); what is added is taking a block and reading two in flat numbers.
 --
---   registerOf q cells memory    the register whose fields an answer holds
 --   Takes s b number place t     the number and the place of the answer to taking the block b into the store s, and the store t afterwards
 --   Reading first second meter ordinal refusal ..   the six numbers of the answer to reading one record out of two antennas' blocks
 use mathlib.Core.Path.{_≡_}
 use mathlib.Core.List.{List}
 use Prim.Native.Nat.{ℕ}
-use lib.IntN.{ℤ}
-use Rattle.registers.specs.declared.Register.{Register}
 use Rattle.store.specs.Taking.{takeOf, numberOf, placeOf}
 use Rattle.antennas.specs.declared.About.{About}
 use Rattle.antennas.specs.Antennas.{Reads}
-
-abbrev pub registerOf : ℕ → ℕ → ℤ → Register
-registerOf q cells memory = record { q = q; cells = cells; memory = memory }
 
 pub record Takes (s b : List ℕ) (number place : ℕ) (t : List ℕ) : Type 0 where
   pub number-is : number ≡ numberOf (takeOf s b .answer)

@@ -9,7 +9,7 @@ ghost use Rattle.registers.specs.Answers.{Steps, Loads, ReadsBack, Sheets};
 ghost use Rattle.by_meter.specs.ByMeter.{LearnsMeter};
 ghost use Rattle.walking.specs.Walks.{Walks};
 ghost use Rattle.whitening.specs.Whitening.{Whitens};
-ghost use Rattle.capi.specs.Flat.{registerOf, Takes, Reading};
+ghost use Rattle.capi.specs.Flat.{Takes, Reading};
 use flat::Entry;
 use flat::Fraction;
 use flat::Loaded;
@@ -48,7 +48,7 @@ pub extern "C" fn cj_read_back(r: Register) -> Fraction
 // The register that emits the bits of p/q, which need not be in lowest terms. Refuses 4, 8.
 #[no_mangle]
 pub extern "C" fn cj_load(p: i32, q: u32) -> Loaded
-    ensures { λ r. ⌜ Loads p q (r .refusal) (registerOf (r .q) (r .cells) (r .memory)) ⌝ }
+    ensures { λ r. ⌜ Loads p q (r .refusal) (r .state) ⌝ }
 {
     flat::from_loaded(registers::load(p, q))
 }
@@ -56,7 +56,7 @@ pub extern "C" fn cj_load(p: i32, q: u32) -> Loaded
 // One step: the emitted bit, and the register after it. Refuses 5, and the register comes back as it was given.
 #[no_mangle]
 pub extern "C" fn cj_step(r: Register) -> Stepped
-    ensures { λ x. ⌜ Steps r (x .refusal) (x .bit) (registerOf (x .q) (x .cells) (x .memory)) ⌝ }
+    ensures { λ x. ⌜ Steps r (x .refusal) (x .bit) (x .state) ⌝ }
 {
     flat::from_stepped(registers::step(r))
 }

@@ -50,13 +50,13 @@ flatReadBack x = record { refusal = readNumber x; p = readP x; q = readQ x }
 
 -- ---- registers
 abbrev pub noRegister : ℕ → Loaded
-noRegister n = record { refusal = n; q = 0; cells = 0; memory = pos 0 }
+noRegister n = record { refusal = n; state = record { q = 0; cells = 0; memory = pos 0 } }
 
 abbrev pub flatLoaded : load.Loaded → Loaded
-flatLoaded x = record { refusal = loadNumber x; q = loadRegister x .q; cells = loadRegister x .cells; memory = loadRegister x .memory }
+flatLoaded x = record { refusal = loadNumber x; state = loadRegister x }
 
 abbrev pub flatStepped : step.Stepped → Stepped
-flatStepped x = record { refusal = stepNumber x; bit = stepBit x; q = stepRegister x .q; cells = stepRegister x .cells; memory = stepRegister x .memory }
+flatStepped x = record { refusal = stepNumber x; bit = stepBit x; state = stepRegister x }
 
 abbrev pub flatSheet : StorageSheet → Storage
 flatSheet x = record { refusal = sheetNumber x; cells = sheetCells x; «memory_bits» = sheetBits x }

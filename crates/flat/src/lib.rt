@@ -2,6 +2,7 @@
 // that lays an answer out. A function of the C interface is then a call of the library and a call of this crate. The contracts cite Flat of specs/.
 ghost use mathlib.Core.Path.{_≡_};
 ghost use Rattle.flat.specs.Flat.{noFraction, noRegister, noWalk, noRecord, flatLearned, flatByMeter, flatReadBack, flatLoaded, flatStepped, flatSheet, flatWalked, flatLookup, flatOutput, flatTaken, flatAbout, NarrowPlace, NarrowRecord};
+use registers::Register;
 
 // A pair, learned or read back.
 #[repr(C)]
@@ -15,9 +16,7 @@ pub struct Fraction {
 #[repr(C)]
 pub struct Loaded {
     pub refusal: u32,
-    pub q: u32,
-    pub cells: u32,
-    pub memory: i32,
+    pub state: Register,
 }
 
 // The emitted bit, and the register after the step.
@@ -25,9 +24,7 @@ pub struct Loaded {
 pub struct Stepped {
     pub refusal: u32,
     pub bit: u32,
-    pub q: u32,
-    pub cells: u32,
-    pub memory: i32,
+    pub state: Register,
 }
 
 // Lead-in, period, and the two together.
@@ -94,11 +91,14 @@ fn no_fraction(refusal: u32) -> Fraction
 fn no_register(refusal: u32) -> Loaded
     ensures { λ r. ⌜ r ≡ noRegister refusal ⌝ }
 {
-    Loaded {
-        refusal: refusal,
+    let none = Register {
         q: 0,
         cells: 0,
         memory: 0,
+    };
+    Loaded {
+        refusal: refusal,
+        state: none,
     }
 }
 
@@ -175,16 +175,14 @@ pub fn from_read_back(x: registers::ReadBack) -> Fraction
     }
 }
 
-// A loaded register, field by field.
+// A loaded register, whole.
 pub fn from_loaded(x: registers::Loaded) -> Loaded
     ensures { λ r. ⌜ r ≡ flatLoaded x ⌝ }
 {
     match x {
         registers::Loaded::Into(g) => Loaded {
             refusal: 0,
-            q: g.q,
-            cells: g.cells,
-            memory: g.memory,
+            state: g,
         },
         registers::Loaded::Outside => no_register(4),
         registers::Loaded::Wide => no_register(8),
@@ -199,16 +197,12 @@ pub fn from_stepped(x: registers::Stepped) -> Stepped
         registers::Stepped::Next(bit, next) => Stepped {
             refusal: 0,
             bit: bit,
-            q: next.q,
-            cells: next.cells,
-            memory: next.memory,
+            state: next,
         },
         registers::Stepped::Invalid(same) => Stepped {
             refusal: 5,
             bit: 0,
-            q: same.q,
-            cells: same.cells,
-            memory: same.memory,
+            state: same,
         },
     }
 }

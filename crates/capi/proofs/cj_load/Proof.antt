@@ -4,7 +4,6 @@ use mir.Syntax.{w32}
 use mir.ValLaws.{toZ-ofZ}
 use Prim.Native.Nat.{ℕ}
 use lib.IntN.{ℤ}
-use Rattle.capi.specs.Flat.{registerOf}
 use Rattle.registers.specs.Answers.{Loads}
 use Rattle.flat.specs.declared.Loaded.{Loaded}
 use Rattle.flat.specs.Flat.{flatLoaded}
@@ -14,7 +13,7 @@ use Rattle.capi.proofs.cj_load.Tie as tie
 
 -- what the contract says of a flat answer
 abbrev Flat : ℤ → ℕ → Loaded → Type 0
-Flat p q r = Loads p q (r .refusal) (registerOf (r .q) (r .cells) (r .memory))
+Flat p q r = Loads p q (r .refusal) (r .state)
 
 load-requires : tie.Need-load-requires
 load-requires c κs = search needs

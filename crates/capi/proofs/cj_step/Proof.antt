@@ -1,7 +1,6 @@
 -- `capi::cj_step` meets its contract: `step`'s own relation, at the fields of the flat answer.
 use mathlib.Core.Path.{sym, subst}
 use Rattle.registers.specs.declared.Register.{Register}
-use Rattle.capi.specs.Flat.{registerOf}
 use Rattle.registers.specs.Answers.{Steps}
 use Rattle.flat.specs.declared.Stepped.{Stepped}
 use borrow.Author.Needs.{needs}
@@ -10,7 +9,7 @@ use Rattle.capi.proofs.cj_step.Tie as tie
 
 -- what the contract says of a flat answer
 abbrev Flat : Register → Stepped → Type 0
-Flat g r = Steps g (r .refusal) (r .bit) (registerOf (r .q) (r .cells) (r .memory))
+Flat g r = Steps g (r .refusal) (r .bit) (r .state)
 
 step-requires : tie.Need-step-requires
 step-requires c κs = search needs

@@ -1,7 +1,5 @@
 -- `flat::from_loaded` meets its contract: by the case of the answer.
 use mathlib.Core.Path.{sym, ap, _∙_}
-use mir.Syntax.{w32}
-use mir.ValLaws.{toZ-ofZ}
 use Rattle.flat.specs.Flat.{flatLoaded}
 use borrow.Author.Needs.{needs}
 use Rattle.flat.proofs.from_loaded.Statement.{statement}
@@ -23,7 +21,7 @@ no-register-requires-2 : tie.Need-no-register-requires-2
 no-register-requires-2 c κs = search needs
 
 returns : tie.Need-returns
-returns c = rw (toZ-ofZ w32 _ (record { sfits = c .struct-told .given .1 .1 .0 .1 })) (sym (ap flatLoaded (c .before .before .x .given .1)))
+returns c = sym (ap flatLoaded (c .before .x .given .1))
 
 returns-2 : tie.Need-returns-2
 returns-2 c = c .no-register .ensures ∙ sym (ap flatLoaded (c .before .enum-told .given .1))

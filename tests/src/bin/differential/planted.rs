@@ -131,8 +131,8 @@ fn by_trying(bits: &[bool], step: usize, key: fn(i64, i64) -> (i64, i64, i64, bo
 
 /// A valid register with the same bits; what a mistake makes of an invalid one.
 fn lenient_step(register: Register) -> Stepped {
-    let (bit, Register { q, cells, memory }) = stepped(register);
-    Stepped { refusal: 0, bit: bit as u32, q, cells, memory }
+    let (bit, state) = stepped(register);
+    Stepped { refusal: 0, bit: bit as u32, state }
 }
 
 impl Library for Planted {
@@ -221,7 +221,7 @@ impl Library for Planted {
             "p = -B refused" if p as i64 == -LIMIT => refused,
             "p = -2^30 answered" if p == -(1 << 30) && q % 2 == 1 && q as i64 <= LIMIT => {
                 let (cells, memory) = registers::state_of(p as i128, q);
-                Loaded { refusal: 0, q, cells, memory: memory as i32 }
+                Loaded { refusal: 0, state: Register { q, cells, memory: memory as i32 } }
             }
             "lowest terms first" if right.refusal == 0 => {
                 let common = gcd(p.unsigned_abs() as u128, q as u128) as i64;
@@ -237,16 +237,17 @@ impl Library for Planted {
         let Register { q, cells, memory } = register;
         let past = Register { memory: memory.clamp(-(1 << 30), 1 << 30), ..register };
         match self.mistake {
-            "-1 halves to 0" if right.refusal == 0 && right.memory == -1 => Stepped { memory: 0, ..right },
+            "-1 halves to 0" if right.refusal == 0 && right.state.memory == -1 => {
+                Stepped { state: Register { memory: 0, ..right.state }, ..right }
+            }
             "register not handed back" if right.refusal != 0 => Stepped { refusal: 5, ..Stepped::default() },
-            "memory 2^30 refused" if memory == 1 << 30 => Stepped { refusal: 5, bit: 0, q, cells, memory },
+            "memory 2^30 refused" if memory == 1 << 30 => Stepped { refusal: 5, bit: 0, state: register },
             "memory one past accepted" if memory == -(1 << 30) - 1 && is_valid(past) => lenient_step(past),
             "cells 2^r accepted" if q != 0 && cells as u64 == 1 << length(q) && is_valid(Register { cells: 0, ..register }) => {
                 lenient_step(Register { cells: 0, ..register })
             }
             "last tap missed" if right.refusal == 0 && cells & 1 == 1 && memory > -(1 << 30) => {
-                let missed = stepped(Register { memory: memory - 1, ..register }).1;
-                Stepped { cells: missed.cells, memory: missed.memory, ..right }
+                Stepped { state: stepped(Register { memory: memory - 1, ..register }).1, ..right }
             }
             _ => right,
         }
