@@ -37,6 +37,12 @@
 extern "C" {
 #endif
 
+/*
+ * The version of this interface: 1.0.0, a byte to each part. The first part is raised where something that was declared has changed, the second
+ * where something was added, the third where neither was.
+ */
+#define CJ_VERSION 0x010000
+
 #define CJ_LIMIT 1073741823         /* 2^30 - 1: the largest q, and the largest p of either sign */
 #define CJ_MOST_MEMORY 1073741824   /* 2^30: the largest memory of a valid register, of either sign */
 #define CJ_MOST_BITS 4096           /* the bits of the longest burst, and of a full place */
@@ -145,6 +151,12 @@ typedef struct cj_record {
     uint32_t start;
     uint32_t length;
 } cj_record;
+
+/*
+ * The version of the library that is linked: the CJ_VERSION of its own header. A program that was compiled with this header may call a library
+ * whose first part is the same and whose version is not smaller: cj_version() >> 16 == CJ_VERSION >> 16 && cj_version() >= CJ_VERSION.
+ */
+uint32_t cj_version(void);
 
 /*
  * The smallest pair that fits the first `count` bits of `bytes`: of the fitting pairs inside the limits, the one with the least size

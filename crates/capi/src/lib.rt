@@ -1,7 +1,8 @@
 // The C interface: numbers, lent bytes and flat structs, for one static library. include/cocklejoist.h declares each function here; a slice is a pointer and a length
-// there. Each calls the library and has `flat` lay the answer out: the refusal's number first, 0 for none; on a refusal every other number is 0, but for a place and a
+// there. Each but `cj_version` calls the library and has `flat` lay the answer out: the refusal's number first, 0 for none; on a refusal every other number is 0, but for a place and a
 // register handed back, and nothing lent has changed. Each comment lists the refusals in the order in which they are tried. Where the buffers are as the header asks,
 // every call is answered or refused. The contracts are the library's own relations between arguments and answers, at the fields, with Flat of specs/.
+ghost use mathlib.Core.Path.{_≡_};
 ghost use Rattle.fractions.specs.Answers.{Outputs};
 ghost use Rattle.learning.specs.Learning.{Learns};
 ghost use Rattle.periods.specs.Answers.{Periods};
@@ -10,6 +11,7 @@ ghost use Rattle.by_meter.specs.ByMeter.{LearnsMeter};
 ghost use Rattle.walking.specs.Walks.{Walks};
 ghost use Rattle.whitening.specs.Whitening.{Whitens};
 ghost use Rattle.capi.specs.Flat.{Takes, Reading};
+ghost use Rattle.capi.specs.Version.{version};
 use flat::Entry;
 use flat::Fraction;
 use flat::Loaded;
@@ -20,6 +22,17 @@ use flat::Taken;
 use flat::Walked;
 use flat::Word;
 use registers::Register;
+
+// 1.0.0, a byte to each part.
+const VERSION: u32 = 0x010000;
+
+// The version of this interface, so that a program can tell whether it was compiled with the header of the library that it is linked with.
+#[no_mangle]
+pub extern "C" fn cj_version() -> u32
+    ensures { λ r. ⌜ r ≡ version ⌝ }
+{
+    VERSION
+}
 
 // The smallest fraction of the first `count` bits; further bits and bytes have no effect. Refuses 1, 2, 3.
 #[no_mangle]
