@@ -13,17 +13,18 @@
  *   block      0 to CJ_BLOCK_BYTES bytes of records end to end. A record: 5A C3; meter, two bytes, high first, 1 to CJ_METERS;
  *              bit count, two bytes, high first, 1 to CJ_RECORD_BITS; the bits in as few bytes as hold them, spare bits zero.
  *   store      CJ_METERS places of CJ_PLACE_BYTES bytes, place k for meter k: a count, two bytes, high first, 0 to
- *              CJ_MOST_BITS; then 512 bytes of bits, zero at and past the count. A fresh store is all zero.
+ *              CJ_MOST_BITS; then CJ_MOST_BITS/8 bytes of bits, zero at and past the count. A fresh store is all zero.
  *
  * Who owns what
  *   Every buffer is the caller's, before and after. It is lent for the length of the call: nothing is kept, nothing is
  *   allocated, nothing is freed. `const` buffers are only read. A function touches the bytes it is lent and no others.
- *   Buffers of one call must not overlap. A pointer must not be null, even where its length is 0.
+ *   A buffer that is not `const` must overlap no other buffer of the call. A pointer whose length is 0 may be null, as that of an
+ *   empty std::vector is: it is not looked at. No other pointer may be.
  *   There is no state of the library's own: calls from several threads are safe as long as no two of them are lent the same
  *   bytes or register with one of them writing.
  *
  * Refusals
- *   Every answer begins with `refusal`: CJ_OK, or the number of the rule that was broken. On a refusal nothing lent has changed, every
+ *   Every answer but a version begins with `refusal`: CJ_OK, or the number of the rule that was broken. On a refusal nothing lent has changed, every
  *   other number of the answer but a `place` is 0, and a register that was handed over by value comes back as it was given. Where several
  *   rules are broken, the function's comment lists its refusals in the order in which they are tried.
  */
