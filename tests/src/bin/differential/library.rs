@@ -22,18 +22,18 @@ pub trait Library: Sync {
 mod c {
     use super::*;
 
-    // As include/cocklejoist.h declares them.
+    // As include/cocklejoist.h declares them, which tests/header/run holds them to.
     extern "C" {
         pub fn cj_learn(bytes: *const u8, len: usize, count: u64) -> Fraction;
         pub fn cj_learn_meter(store: *const u8, len: usize, meter: u32) -> Fraction;
-        pub fn cj_read_back(register: Register) -> Fraction;
+        pub fn cj_read_back(r: Register) -> Fraction;
         pub fn cj_load(p: i32, q: u32) -> Loaded;
-        pub fn cj_step(register: Register) -> Stepped;
-        pub fn cj_walk(register: Register, allowance: u32) -> Walked;
-        pub fn cj_sheet(register: Register) -> Storage;
+        pub fn cj_step(r: Register) -> Stepped;
+        pub fn cj_walk(r: Register, allowance: u32) -> Walked;
+        pub fn cj_sheet(r: Register) -> Storage;
         pub fn cj_period(q: u32) -> Entry;
         pub fn cj_output_word(p: i32, q: u32) -> Word;
-        pub fn cj_whiten(register: *mut Register, bytes: *mut u8, len: usize) -> u32;
+        pub fn cj_whiten(r: *mut Register, bytes: *mut u8, len: usize) -> u32;
         pub fn cj_take(store: *mut u8, store_len: usize, block: *const u8, block_len: usize) -> Taken;
         pub fn cj_read(first: *const u8, first_len: usize, second: *const u8, second_len: usize, meter: u32, ordinal: u32) -> Read;
     }

@@ -1,4 +1,4 @@
-/* The header alone, as C99 and as C++: it compiles without a word, and the layouts are those that other languages declare again. */
+/* The layouts that other languages declare again, in numbers: an answer that moves by a byte in the sources and the header alike is seen here. */
 #include "cocklejoist.h"
 
 /* An array of a negative size does not compile. */
