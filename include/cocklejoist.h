@@ -156,6 +156,8 @@ typedef struct cj_record {
 /*
  * The version of the library that is linked: the CJ_VERSION of its own header. A program that was compiled with this header may call a library
  * whose first part is the same and whose version is not smaller: cj_version() >> 16 == CJ_VERSION >> 16 && cj_version() >= CJ_VERSION.
+ *
+ *     assert(cj_version() == CJ_VERSION);
  */
 uint32_t cj_version(void);
 
@@ -164,36 +166,65 @@ uint32_t cj_version(void);
  * (the larger of |p| and q); among those the least |p|; then the least q; then p not negative. No bits: (0, 1).
  * Bits past the count and further bytes have no effect.
  * Refuses, in this order: CJ_BURST_TOO_LONG, CJ_BYTES_MISSING, CJ_NO_PAIR (exactly when no pair inside the limits fits).
+ *
+ *     static const uint8_t bytes[] = {0x53, 0x04}; // 1100101000100, the first bit left
+ *     cj_fraction pair = cj_learn(bytes, sizeof bytes, 13);
+ *     assert(pair.refusal == CJ_OK && pair.p == -1 && pair.q == 37);
  */
 cj_fraction cj_learn(const uint8_t *bytes, size_t len, uint64_t count);
 
 /*
  * The same for the bits in the place of `meter` (1 to CJ_METERS) of a store.
  * Refuses, in this order: CJ_STORE_INVALID, CJ_METER_WRONG, CJ_NO_PAIR.
+ *
+ *     static uint8_t store[CJ_STORE_BYTES];              // fresh
+ *     uint8_t *place = store + (7 - 1) * CJ_PLACE_BYTES; // of meter 7
+ *     place[1] = 3, place[2] = 0x05;                     // three bits, 101
+ *     cj_fraction pair = cj_learn_meter(store, sizeof store, 7);
+ *     assert(pair.refusal == CJ_OK && pair.p == -1 && pair.q == 3);
  */
 cj_fraction cj_learn_meter(const uint8_t *store, size_t len, uint32_t meter);
 
 /*
  * The pair whose bits the register emits, in lowest terms with q positive; zero is (0, 1).
  * Refuses, in this order: CJ_REGISTER_INVALID, CJ_READ_BACK_OUTSIDE.
+ *
+ *     cj_register r = {15, 5, 0}; // loaded from (-5, 15)
+ *     cj_fraction pair = cj_read_back(r);
+ *     assert(pair.refusal == CJ_OK && pair.p == -1 && pair.q == 3);
  */
 cj_fraction cj_read_back(cj_register r);
 
 /*
  * The register that emits the bits of p/q. The pair need not be in lowest terms; the register keeps its q.
  * Refuses, in this order: CJ_OUTSIDE_LIMITS, CJ_MEMORY_OUTSIDE.
+ *
+ *     cj_loaded loaded = cj_load(-1, 37);
+ *     assert(loaded.refusal == CJ_OK && loaded.state.q == 37 && loaded.state.cells == 19 && loaded.state.memory == 0);
  */
 cj_loaded cj_load(int32_t p, uint32_t q);
 
 /*
  * One step: the bit that comes out, and the register after it.
  * Refuses: CJ_REGISTER_INVALID, and hands the register back as given (bit 0).
+ *
+ *     cj_register r = {37, 19, 0}; // loaded from (-1, 37)
+ *     for (const char *bits = "1100101000100"; *bits; bits++) {
+ *         cj_stepped stepped = cj_step(r);
+ *         assert(stepped.refusal == CJ_OK && stepped.bit == (uint32_t)(*bits - '0'));
+ *         r = stepped.state;
+ *     }
  */
 cj_stepped cj_step(cj_register r);
 
 /*
  * Lead-in, the least L, and period, the least T >= 1, for which the state after L+T steps equals the state after L; and L+T.
  * Refuses, in this order: CJ_REGISTER_INVALID, CJ_ALLOWANCE_TOO_SMALL (exactly when L+T exceeds the allowance).
+ *
+ *     cj_register r = {37, 19, 0}; // loaded from (-1, 37)
+ *     cj_walked walked = cj_walk(r, 36);
+ *     assert(walked.refusal == CJ_OK && walked.lead == 0 && walked.period == 36 && walked.sum == 36);
+ *     assert(cj_walk(r, 35).refusal == CJ_ALLOWANCE_TOO_SMALL);
  */
 cj_walked cj_walk(cj_register r, uint32_t allowance);
 
@@ -201,18 +232,29 @@ cj_walked cj_walk(cj_register r, uint32_t allowance);
  * The cells of the register, r, and the bits that its memory needs once it has no lead-in: the bit length of w - 1,
  * w being the number of ones in q+1.
  * Refuses: CJ_REGISTER_INVALID.
+ *
+ *     cj_register r = {37, 19, 0}; // 38 has three ones
+ *     cj_storage storage = cj_sheet(r);
+ *     assert(storage.refusal == CJ_OK && storage.cells == 5 && storage.memory_bits == 2);
  */
 cj_storage cj_sheet(cj_register r);
 
 /*
  * The least T >= 1 with 2^T - 1 divisible by q, from the table of the odd q from 1 to CJ_TABLE_LARGEST.
  * Refuses: CJ_OUTSIDE_LIMITS (q even, 0 or larger).
+ *
+ *     cj_entry entry = cj_period(37);
+ *     assert(entry.refusal == CJ_OK && entry.period == 36);
  */
 cj_entry cj_period(uint32_t q);
 
 /*
  * The whole number u below 2^64 with u*q - p divisible by 2^64: the first 64 bits of p/q, the first bit lowest.
  * Refuses: CJ_OUTSIDE_LIMITS.
+ *
+ *     cj_word first = cj_output_word(-1, 37);
+ *     assert(first.refusal == CJ_OK && first.word % 8192 == 0x0453); // 1100101000100, and what follows
+ *     assert(cj_output_word(-1, 1).word == UINT64_MAX);              // ones forever
  */
 cj_word cj_output_word(int32_t p, uint32_t q);
 
@@ -220,6 +262,12 @@ cj_word cj_output_word(int32_t p, uint32_t q);
  * Combines each of the `len` bytes by exclusive or with the next eight bits of the register, the first bit lowest, and leaves
  * *r stepped eight times for each byte. The same starting register applied twice gives the first bytes back.
  * Answers CJ_OK or a refusal, in this order: CJ_REGISTER_INVALID, CJ_TOO_MUCH_TO_WHITEN; on a refusal neither *r nor a byte has changed.
+ *
+ *     cj_register r = {37, 19, 0}, start = r; // loaded from (-1, 37)
+ *     uint8_t bytes[] = {0, 0};
+ *     assert(cj_whiten(&r, bytes, sizeof bytes) == CJ_OK);
+ *     assert(bytes[0] == 0x53 && bytes[1] % 32 == 0x04); // 1100101000100, and three bits more
+ *     assert(cj_whiten(&start, bytes, sizeof bytes) == CJ_OK && bytes[0] == 0 && bytes[1] == 0);
  */
 uint32_t cj_whiten(cj_register *r, uint8_t *bytes, size_t len);
 
@@ -229,6 +277,14 @@ uint32_t cj_whiten(cj_register *r, uint8_t *bytes, size_t len);
  * Refuses, in this order: CJ_STORE_INVALID, CJ_BLOCK_TOO_LONG; then record by record CJ_RECORD_CUT (fewer than six bytes left),
  * CJ_MARK_WRONG, CJ_METER_WRONG, CJ_BIT_COUNT_WRONG, CJ_RECORD_CUT (bits past the block's end), CJ_SPARE_BIT_SET; and only when every record has
  * passed, CJ_PLACE_FULL at the first record that overfills its place.
+ *
+ *     static uint8_t store[CJ_STORE_BYTES]; // fresh
+ *     static const uint8_t block[] = {0x5A, 0xC3, 0, 3, 0, 13, 0x53, 0x04, 0x5A, 0xC3, 0, 7, 0, 3, 0x05};
+ *     assert(cj_take(store, sizeof store, block, sizeof block).refusal == CJ_OK);
+ *     cj_fraction pair = cj_learn_meter(store, sizeof store, 3);
+ *     assert(pair.p == -1 && pair.q == 37);
+ *     cj_taken taken = cj_take(store, sizeof store, block, sizeof block - 1); // its last byte lost
+ *     assert(taken.refusal == CJ_RECORD_CUT && taken.place == 8);
  */
 cj_taken cj_take(uint8_t *store, size_t store_len, const uint8_t *block, size_t block_len);
 
@@ -239,6 +295,12 @@ cj_taken cj_take(uint8_t *store, size_t store_len, const uint8_t *block, size_t 
  * stay in the caller's block, first + start or second + start as `antenna` says, for as long as the caller keeps that block.
  * Refuses, in this order: where both blocks are malformed, what the first one breaks, with its place: CJ_BLOCK_TOO_LONG, then
  * CJ_RECORD_CUT to CJ_SPARE_BIT_SET record by record as in cj_take; CJ_METER_WRONG for the asked meter (place 0); CJ_NO_RECORD.
+ *
+ *     static const uint8_t block[] = {0x5A, 0xC3, 0, 3, 0, 13, 0x53, 0x04, 0x5A, 0xC3, 0, 7, 0, 3, 0x05};
+ *     cj_record record = cj_read(block, sizeof block - 1, block, sizeof block, 7, 1); // the first antenna lost a byte
+ *     assert(record.refusal == CJ_OK && record.antenna == 2 && record.count == 3);
+ *     assert(record.length == 1 && block[record.start] == 0x05);
+ *     assert(cj_read(block, sizeof block, block, sizeof block, 7, 2).refusal == CJ_NO_RECORD);
  */
 cj_record cj_read(const uint8_t *first, size_t first_len, const uint8_t *second, size_t second_len, uint32_t meter, uint32_t ordinal);
 
