@@ -20,6 +20,7 @@
  *   allocated, nothing is freed. `const` buffers are only read. A function touches the bytes it is lent and no others.
  *   A buffer that is not `const` must overlap no other buffer of the call. A pointer whose length is 0 may be null, as that of an
  *   empty std::vector is: it is not looked at. No other pointer may be.
+ *   What a call takes, in instructions and in stack, stands in docs/MANUAL.md.
  *   There is no state of the library's own: calls from several threads are safe as long as no two of them are lent the same
  *   bytes or register with one of them writing.
  *
