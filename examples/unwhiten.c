@@ -30,6 +30,11 @@ static void expect_ok(const char *what, uint32_t refusal)
 
 int main(void)
 {
+    if (cj_version() != CJ_VERSION) {
+        printf("compiled with another header than that of the library\n");
+        return 1;
+    }
+
     cj_taken taken = cj_take(store, sizeof store, block, sizeof block);
     expect_ok("take", taken.refusal);
     printf("block of %u bytes: taken\n", (unsigned)sizeof block);
