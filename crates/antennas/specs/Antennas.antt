@@ -80,10 +80,10 @@ pub data Asked (antenna : ℕ) (block : List ℕ) (meter ordinal : ℕ) : About 
 -- "The first antenna's block is used if all of it is well formed, otherwise the second's."
 -- "Refusals: 11 to 16 of the first block with its place if both blocks are malformed, then .."
 pub data Reads (first second : List ℕ) (meter ordinal : ℕ) : About → ℕ → ℕ → ℕ → ℕ → ℕ → ℕ → Type 0 where
-  by-first : {r : About} {refusal place count antenna start length : ℕ} → formOf first ≡ F.Sound
-      → Asked 1 first meter ordinal r refusal place count antenna start length → Reads first second meter ordinal r refusal place count antenna start length
-  by-second : {x : Refusal} {r : About} {refusal place count antenna start length : ℕ} → formOf first ≡ F.Refused x → formOf second ≡ F.Sound
-      → Asked 2 second meter ordinal r refusal place count antenna start length → Reads first second meter ordinal r refusal place count antenna start length
+  by-first : {r : About} {refusal place count antenna start size : ℕ} → formOf first ≡ F.Sound
+      → Asked 1 first meter ordinal r refusal place count antenna start size → Reads first second meter ordinal r refusal place count antenna start size
+  by-second : {x : Refusal} {r : About} {refusal place count antenna start size : ℕ} → formOf first ≡ F.Refused x → formOf second ≡ F.Sound
+      → Asked 2 second meter ordinal r refusal place count antenna start size → Reads first second meter ordinal r refusal place count antenna start size
   neither : {x y : Refusal} → formOf first ≡ F.Refused x → formOf second ≡ F.Refused y → Reads first second meter ordinal (A.Malformed x) (numberOf x) (placeOf x) 0 0 0 0
 
 abbrev pub Read : List ℕ → List ℕ → ℕ → ℕ → About → Type 0
