@@ -2,15 +2,15 @@
 use fractions::Output;
 
 fn print_word(p: i32, q: u32) {
-    show::text(b"word");
-    show::signed32_field(p);
+    show::word(b"word");
+    show::signed_field(p);
     show::field(q as u64);
     match fractions::output_word(p, q) {
         Output::Word(u) => {
             show::field(u);
         }
         Output::Outside => {
-            show::text(b" refused 4");
+            show::word(b" refused 4");
         }
     }
     show::line_end();

@@ -8,7 +8,7 @@ fn report(answer: Learned) {
     match answer {
         Learned::Answer(x) => {
             show::number(0);
-            show::signed32_field(x.p);
+            show::signed_field(x.p);
             show::field(x.q as u64);
         }
         Learned::CountTooLarge => show::number(1),

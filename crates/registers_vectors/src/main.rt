@@ -10,7 +10,7 @@ use registers::StorageSheet;
 fn print_register(g: Register) {
     show::field(g.q as u64);
     show::field(g.cells as u64);
-    show::signed32_field(g.memory);
+    show::signed_field(g.memory);
 }
 
 fn print_load(answer: Loaded) {
@@ -42,7 +42,7 @@ fn print_read_back(answer: ReadBack) {
     match answer {
         ReadBack::Pair(f) => {
             show::field(0);
-            show::signed32_field(f.p);
+            show::signed_field(f.p);
             show::field(f.q as u64);
         }
         ReadBack::Invalid => show::field(5),

@@ -1,8 +1,12 @@
-// Printing for programs: what they share. No contract can say what is written; what matters is computed in the libraries.
-ghost use Prim.Native.Nat.{_<_};
+// Printing for programs: what they share. No contract can say what is written. What is computed for it has one: the text of a signed number is that of `text`, and
+// `checksum` cites Checksums of specs/.
+ghost use mathlib.Core.Path.{_≡_};
+ghost use Rattle.show.specs.Checksums.{checksumOf};
 use libc::STDOUT_FILENO;
 
-pub fn text(bytes: &[u8]) {
+const MODULUS: usize = 65521;
+
+pub fn word(bytes: &[u8]) {
     io::write_all(STDOUT_FILENO, bytes);
 }
 
@@ -12,48 +16,39 @@ pub fn number(n: u64) {
 
 // A space, then the number.
 pub fn field(n: u64) {
-    text(b" ");
+    word(b" ");
     number(n);
 }
 
-pub fn signed(x: i64) {
-    if x < 0 {
-        text(b"-");
-    }
-    number(integers::magnitude(x));
-}
-
-// A space, then the number.
-pub fn signed_field(x: i64) {
-    text(b" ");
-    signed(x);
-}
-
-// The same for 32 bits, as the libraries' p and memory have, so that programs need no cast.
-pub fn signed32_field(x: i32) {
-    signed_field(x as i64);
+// The same for a number of either sign, as the libraries' p and memory are. It has at most ten digits.
+pub fn signed_field(x: i32) {
+    let mut digits = [0u8; 11];
+    let n = text::signed(&mut digits, 0, x);
+    word(b" ");
+    word(&digits[..n]);
 }
 
 // A literal costs the program that has it a proof, so the marks that several print stand here.
 pub fn comma() {
-    text(b",");
+    word(b",");
 }
 
 pub fn line_end() {
-    text(b"\n");
+    word(b"\n");
 }
 
-fn wide(byte: u8) -> u64
-    ensures { λ r. ⌜ r < 256 ⌝ }
+// A number that a change of any one of the bytes changes.
+pub fn checksum(bytes: &[u8]) -> usize
+    ensures { λ r. ⌜ r ≡ checksumOf (now (bytes .entry)) ⌝ }
 {
-    byte as u64
-}
-
-// A space, then a checksum of the bytes, which a change of any one of them changes.
-pub fn checksum_field(bytes: &[u8]) {
     let mut sum = 1;
     for i in 0..bytes.len() {
-        sum = (sum % 65521 * 31 + wide(bytes[i])) % 65521;
+        sum = (sum * 31 + bits::wide(bytes[i])) % MODULUS;
     }
-    field(sum);
+    sum
+}
+
+// A space, then the checksum of the bytes.
+pub fn checksum_field(bytes: &[u8]) {
+    field(checksum(bytes) as u64);
 }

@@ -10,7 +10,7 @@ fn whiten(register: Register, bytes: &mut [u8]) {
     show::field(w.refusal as u64);
     show::field(after.q as u64);
     show::field(after.cells as u64);
-    show::signed32_field(after.memory);
+    show::signed_field(after.memory);
     show::checksum_field(bytes);
     show::line_end();
 }

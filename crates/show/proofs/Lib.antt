@@ -1,0 +1,2 @@
+-- Checksums has what a checksum tells of its bytes.
+pub mod Checksums
