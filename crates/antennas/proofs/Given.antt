@@ -5,6 +5,7 @@
 --   asked-sought   the search answers the question
 --   read-given     an answer with a record tells of one in the first block, as antenna 1, or in the second, as antenna 2
 --   given-inside   its stretch lies inside that block
+--   some-end ..    for `read_part`: the bytes of the part, where they end and where they lie, by the antenna
 use Prim.Native.Nat.{ℕ, _+_, _-_, _≤_}
 use mathlib.Core.Path.{_≡_, refl, sym, ap, _∙_}
 use mathlib.Core.Bool.{Bool, true, false, cond}
@@ -26,7 +27,7 @@ use Rattle.records.proofs.Cond.{yes, no}
 use Rattle.antennas.specs.declared.Seen.{Seen}
 use Rattle.antennas.specs.declared.About.{About}
 use Rattle.antennas.specs.declared.About.the-variants as A
-use Rattle.antennas.specs.Antennas.{IsMeter, Nth, seenOf, readNumber, readPlace, readCount, readAntenna, readStart, readLength, Asked, found, bad-meter, no-record, Reads, by-first, by-second, neither, Read, partOf}
+use Rattle.antennas.specs.Antennas.{IsMeter, Nth, seenOf, readNumber, readPlace, readCount, readAntenna, readStart, readLength, Asked, found, bad-meter, no-record, Reads, by-first, by-second, neither, Read, partOf, Address, behind, partAt}
 use Rattle.antennas.specs.Search.{Sought, sought, fewer}
 use Rattle.antennas.proofs.Ordinals.{nth-cons, nth-none}
 
@@ -135,3 +136,10 @@ module _ (first second : List ℕ) (meter ordinal : ℕ) (r : About) (h : Read f
 
   pub part-second : (x .antenna ≡ 1 → ⊥) → take (x .start + x .length - x .start) (drop (x .start) second) ≡ partOf first second r
   part-second n = same-part second ∙ ap (λ (l : List ℕ). take (x .length) (drop (x .start) l)) (sym (no _ _ (ne-eqb (x .antenna) 1 n))) ∙ ap (partOf first second) (sym q)
+
+module _ (a b : Address) (r : About) (x : Seen) (q : r ≡ A.Found x) where
+  pub at-first : x .antenna ≡ 1 → behind a (x .start) ≡ partAt a b r
+  at-first e = ap (λ (y : Address). behind y (x .start)) (sym (yes a b (eq-eqb (x .antenna) 1 e))) ∙ ap (partAt a b) (sym q)
+
+  pub at-second : (x .antenna ≡ 1 → ⊥) → behind b (x .start) ≡ partAt a b r
+  at-second n = ap (λ (y : Address). behind y (x .start)) (sym (no a b (ne-eqb (x .antenna) 1 n))) ∙ ap (partAt a b) (sym q)

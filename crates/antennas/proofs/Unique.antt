@@ -2,7 +2,8 @@
 --
 --   asked-unique, reads-unique   one answer to a question, and its numbers are those of the answer
 --   read-about-unique            the twin's answers are equal
---   read-part-unique             the parts are equal, as lists of bytes
+--   part-unique, lies-unique     the parts are equal as lists of bytes, and lie at one address
+--   read-part-unique             both: any two parts that meet the contract are one part
 use Prim.Native.Nat.{ℕ, _<_}
 use mathlib.Core.Path.{_≡_, refl, sym, ap, _∙_}
 use mathlib.Core.Logic.{_⊎_, ⊎-elim}
@@ -15,7 +16,7 @@ use Rattle.records.specs.declared.Form.the-variants as F
 use Rattle.records.specs.Block.{Entry}
 use Rattle.antennas.specs.declared.About.{About}
 use Rattle.antennas.specs.declared.About.the-variants as A
-use Rattle.antennas.specs.Antennas.{Nth, seenOf, readNumber, readPlace, readCount, readAntenna, readStart, readLength, Asked, found, bad-meter, no-record, Reads, by-first, by-second, neither, Read, partOf, Part}
+use Rattle.antennas.specs.Antennas.{Nth, seenOf, readNumber, readPlace, readCount, readAntenna, readStart, readLength, Asked, found, bad-meter, no-record, Reads, by-first, by-second, neither, Read, partOf, Part, Address, partAt, Lies}
 use Rattle.antennas.proofs.Ordinals.{nth-within, nth-unique}
 
 sound-refused : {b : Form} {x : Refusal} → b ≡ F.Sound → b ≡ F.Refused x → ⊥
@@ -75,5 +76,13 @@ module _ (first second : List ℕ) (meter ordinal : ℕ) where
   pub read-about-unique : (r t : About) → Read first second meter ordinal r → Read first second meter ordinal t → r ≡ t
   read-about-unique r t p q = reads-unique p q
 
-  pub read-part-unique : (x y : List ℕ) → Part first second meter ordinal x → Part first second meter ordinal y → x ≡ y
-  read-part-unique x y p q = p .bytes-are ∙ ap (partOf first second) (read-about-unique (p .about) (q .about) (p .read) (q .read)) ∙ sym (q .bytes-are)
+  pub part-unique : (x y : List ℕ) → Part first second meter ordinal x → Part first second meter ordinal y → x ≡ y
+  part-unique x y p q = p .bytes-are ∙ ap (partOf first second) (read-about-unique (p .about) (q .about) (p .read) (q .read)) ∙ sym (q .bytes-are)
+
+  module _ (a b : Address) where
+    pub lies-unique : (at at' : Address) → Lies first second meter ordinal a b at → Lies first second meter ordinal a b at' → at ≡ at'
+    lies-unique at at' p q = p .at-is ∙ ap (partAt a b) (read-about-unique (p .about) (q .about) (p .read) (q .read)) ∙ sym (q .at-is)
+
+    pub read-part-unique : (x y : List ℕ) (at at' : Address) → Part first second meter ordinal x × Lies first second meter ordinal a b at
+        → Part first second meter ordinal y × Lies first second meter ordinal a b at' → (x ≡ y) × (at ≡ at')
+    read-part-unique x y at at' p q = (part-unique x y (p .0) (q .0), lies-unique at at' (p .1) (q .1))

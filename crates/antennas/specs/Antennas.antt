@@ -9,7 +9,10 @@
 --   Read first second meter ordinal r  the same, its numbers taken from r
 --   partOf first second r     the part that goes with an answer: "On a refusal the part handed back is empty"
 --   Part first second meter ordinal bytes   the part's bytes, where "a twin question over the same inputs answers the bit count and the antenna"
-use Prim.Native.Nat.{ℕ, suc, _≤_, _<_}
+--   partAt a b r              where the part that goes with an answer lies, a and b being where the two blocks begin: "as a part of the block it came from",
+--                             and on a refusal "from the start of the first block"
+--   Lies first second meter ordinal a b at   the part lies at `at`
+use Prim.Native.Nat.{ℕ, suc, _+_, _≤_, _<_}
 use mathlib.Core.Path.{_≡_}
 use mathlib.Core.Bool.{cond}
 use mathlib.Core.Logic.{_⊎_}
@@ -100,3 +103,21 @@ pub record Part (first second : List ℕ) (meter ordinal : ℕ) (bytes : List �
   pub about : About
   pub read : Read first second meter ordinal about
   pub bytes-are : bytes ≡ partOf first second about
+
+-- an address: a stretch of memory, and a number of bytes into it; `behind a n` is n bytes behind a
+abbrev pub Address : Type 0
+Address = ℕ × ℕ
+
+abbrev pub behind : Address → ℕ → Address
+behind a n = (a .0, n + a .1)
+
+abbrev pub partAt : Address → Address → About → Address
+partAt a b (A.Found x) = behind (cond (eqb (x .antenna) 1) a b) (x .start)
+partAt a b (A.Malformed x) = a
+partAt a b A.BadMeter = a
+partAt a b A.NoRecord = a
+
+pub record Lies (first second : List ℕ) (meter ordinal : ℕ) (a b at : Address) : Type 0 where
+  pub about : About
+  pub read : Read first second meter ordinal about
+  pub at-is : at ≡ partAt a b about

@@ -4,7 +4,7 @@ ghost use mathlib.Core.Path.{_≡_};
 ghost use Prim.Native.Nat.{_<_};
 ghost use Rattle.records.specs.Block.{parse};
 ghost use Rattle.records.specs.Named.{named};
-ghost use Rattle.antennas.specs.Antennas.{Asked, Read, Part, readNumber, readPlace, readCount, readAntenna, readStart, readLength};
+ghost use Rattle.antennas.specs.Antennas.{Asked, Read, Part, Lies, readNumber, readPlace, readCount, readAntenna, readStart, readLength};
 ghost use Rattle.antennas.specs.Search.{Sought};
 
 // What is told of a record: its bits, the antenna that it came from, and where its bytes stand in that antenna's block.
@@ -97,6 +97,7 @@ pub fn read_about(first: &[u8], second: &[u8], meter: u32, ordinal: u32) -> Abou
 // The payload bytes of that record, as a part of the block it came from; on a refusal the empty part from the start of the first block.
 pub fn read_part<'a>(first: &'a [u8], second: &'a [u8], meter: u32, ordinal: u32) -> &'a [u8]
     ensures { λ r. ⌜ Part (now (first .entry)) (now (second .entry)) meter ordinal (now r) ⌝ }
+    ensures { λ r. ⌜ Lies (now (first .entry)) (now (second .entry)) meter ordinal (first .entry .ptr) (second .entry .ptr) (r .ptr) ⌝ }
 {
     let about = read_about(first, second, meter, ordinal);
     let About::Found(x) = about else {

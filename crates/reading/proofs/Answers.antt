@@ -14,7 +14,7 @@ use Rattle.antennas.specs.declared.About.the-variants as A
 use Rattle.antennas.specs.Antennas.{readCount, Read, Part}
 use Rattle.text.specs.Text.{Wrote}
 use Rattle.text.proofs.Writing.{wrote-unique, wrote-counts}
-use Rattle.antennas.proofs.Unique.{read-about-unique, read-part-unique}
+use Rattle.antennas.proofs.Unique.{read-about-unique, part-unique}
 use Rattle.antennas.proofs.Laws.{answers-agree, read-within}
 use Rattle.reading.specs.Line.{lineOf, Prints}
 
@@ -34,5 +34,5 @@ module _ (first second : List ℕ) (meter ordinal : ℕ) where
   pub line-unique : (old new new' : List ℕ) (r r' : ℕ) → Prints first second meter ordinal old new r → Prints first second meter ordinal old new' r' → (new ≡ new') × (r ≡ r')
   line-unique old new new' r r' p q =
       let a = read-about-unique first second meter ordinal (p .about) (q .about) (p .read) (q .read) in
-      let b = read-part-unique first second meter ordinal (p .part) (q .part) (p .part-is) (q .part-is) in
+      let b = part-unique first second meter ordinal (p .part) (q .part) (p .part-is) (q .part-is) in
       wrote-unique (p .wrote) (subst (λ (t : List ℕ). Wrote old 0 t new' r') (sym (λ i. lineOf (a i) (b i))) (q .wrote))
