@@ -1,4 +1,11 @@
 -- Numbers as text: the digits that `io` writes are the number's text, its value is the number, and it has no more digits than its size asks.
+--
+--   Spelt, spelt                     the digits of a number from the last to the first
+--   digits-are                       `io` writes a number's text
+--   value-decimal                    a text's value is the number, so decimal-unique and signed-unique: two numbers with one text are one number
+--   length-decimal, length-signed    how long a text can be
+--   Above, decimal-above, signed-above, field-unique   a field ends at its separator, since every byte of it is above that
+--   signed-below, signed-not-below   the text of a signed number, by its sign
 use mathlib.Core.Path.{_≡_, refl, sym, ap, _∙_, subst}
 use mathlib.Core.Bool.{Bool, true, false, cond}
 use mathlib.Core.List.{List, [], _∷_, _++_}
@@ -14,6 +21,7 @@ use borrow.Author.Tests.{lt-ltb, le-ltb, ltb-true}
 use Rattle.integers.proofs.Finite.{lt-or-ge}
 use Rattle.io.specs.Digits.{glyph, digits, Fewest}
 use Rattle.text.specs.Text.{digitOf, decimalIn, decimalOf, signedOf, minusSign}
+use Rattle.text.specs.Numerals.{valueFrom, valueOf}
 
 -- ---- one digit, and more than one
 
@@ -78,22 +86,21 @@ digits-are (suc k) n f = digits-are-in n k n (omega arith) f
 
 -- ---- what a text says
 
-valueFrom : ℕ → List ℕ → ℕ
-valueFrom a [] = a
-valueFrom a (x ∷ xs) = valueFrom (a * 10 + (x - 48)) xs
-
 value-append : (a : ℕ) (s t : List ℕ) → valueFrom a (s ++ t) ≡ valueFrom (valueFrom a s) t
 unfolding valueFrom
 value-append a [] t = refl
-value-append a (x ∷ s) t = value-append (a * 10 + (x - 48)) s t
+value-append a (x ∷ s) t = value-append (10 * a + (x - digitOf 0)) s t
 
 value-spelt : {n : ℕ} {s : List ℕ} → Spelt n s → valueFrom 0 s ≡ n
 unfolding valueFrom
 value-spelt (single h) = omega arith
 value-spelt (longer {n} {s} h t) = value-append 0 s _ ∙ rw (value-spelt t) (omega arith)
 
+pub value-decimal : (n : ℕ) → valueOf (decimalOf n) ≡ n
+value-decimal n = value-spelt (spelt n)
+
 pub decimal-unique : (m n : ℕ) → decimalOf m ≡ decimalOf n → m ≡ n
-decimal-unique m n e = sym (value-spelt (spelt m)) ∙ ap (valueFrom 0) e ∙ value-spelt (spelt n)
+decimal-unique m n e = sym (value-decimal m) ∙ ap (valueFrom 0) e ∙ value-decimal n
 
 -- ---- how long a text is
 

@@ -1,13 +1,21 @@
 -- Text written piece by piece: a text and then another, right behind it, are the two in one.
-use mathlib.Core.Path.{_≡_, refl, sym, ap, _∙_}
-use mathlib.Core.List.{List, _++_, append-assoc, append-nil}
+--
+--   length-written, wrote-length   as many bytes as before
+--   written-more, wrote-then       a text and another right behind it
+--   copied                         a text copied to the bytes from a position on was written there
+--   wrote-start                    what was written at the start stands there
+--   wrote-nothing                  no text leaves every byte as it was
+--   wrote-counts                   what was written from the start on ends inside the bytes
+--   wrote-unique, writes-unique    bytes and position are determined by the text, and so by a kind that has one text
+use mathlib.Core.Path.{_≡_, refl, sym, ap, _∙_, subst}
+use mathlib.Core.List.{List, [], _++_, append-assoc, append-nil}
 use Prim.Native.Nat.{ℕ, _+_, _-_, _≤_}
 use native.Mathlib.Omega.{arith}
 use native.Mathlib.Nat.{add-assoc}
-use lib.ListN.{length, take, drop, length-append, length-drop, drop-of-length-le}
+use lib.ListN.{length, take, drop, length-append, length-drop, drop-of-length-le, take-append-drop}
 use lib.Seq.{length-take-le, take-at, drop-at, drop-drop, take-length, take-all}
 use Rattle.io.specs.Counts.{Counts}
-use Rattle.text.specs.Text.{written, Wrote}
+use Rattle.text.specs.Text.{written, Wrote, Writes}
 
 pub length-written : (old : List ℕ) (at : ℕ) (text : List ℕ) → at + length text ≤ length old → length (written old at text) ≡ length old
 length-written old at text h =
@@ -51,6 +59,21 @@ copied old at text new h e =
 
 pub wrote-unique : {old : List ℕ} {at : ℕ} {text new new' : List ℕ} {r r' : ℕ} → Wrote old at text new r → Wrote old at text new' r' → (new ≡ new') × (r ≡ r')
 wrote-unique w v = (w .new-is ∙ sym (v .new-is), w .r-is ∙ sym (v .r-is))
+
+pub writes-unique : {P : List ℕ → Type 0} {old new new' : List ℕ} {at r r' : ℕ} → ((t t' : List ℕ) → P t → P t' → t ≡ t')
+    → Writes P old at new r → Writes P old at new' r' → (new ≡ new') × (r ≡ r')
+writes-unique {old = old} {new' = new'} {at = at} {r' = r'} one v w =
+    wrote-unique (v .wrote) (subst (λ (t : List ℕ). Wrote old at t new' r') (sym (one (v .text) (w .text) (v .is) (w .is))) (w .wrote))
+
+pub wrote-start : {old text new : List ℕ} {r : ℕ} → Wrote old 0 text new r → take r new ≡ text
+wrote-start {old} {text} {new} {r} w = ap (take r) (w .new-is) ∙ take-at text _ r (let e : length text ≡ r = omega (arith, w .r-is) in e)
+
+pub wrote-nothing : (old : List ℕ) (at : ℕ) → Wrote old at [] old at
+wrote-nothing old at =
+    record {
+      new-is = sym (ap (λ (n : ℕ). take at old ++ drop n old) (let e : at + 0 ≡ at = omega arith in e) ∙ take-append-drop at old);
+      r-is = omega arith;
+    }
 
 -- what was written from the start on ends inside bytes that are as many as they were, so it is a part of them
 pub wrote-counts : {old text new : List ℕ} {r : ℕ} → Wrote old 0 text new r → length new ≡ length old → Counts r new

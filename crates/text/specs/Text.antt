@@ -4,6 +4,7 @@
 --   signedOf z                the same, with "-" in front of a negative number
 --   written old at text       the bytes `old` with `text` in them from `at` on, and every other byte as it was
 --   Wrote old at text new r   the bytes `new` are those, and r is the position after the text
+--   Writes P old at new r     the same for some text of the kind P
 -- The laws `decimal-unique` and `signed-unique` say that two numbers with one text are one number.
 use mathlib.Core.Path.{_≡_}
 use mathlib.Core.Bool.{cond}
@@ -39,3 +40,8 @@ written old at text = take at old ++ (text ++ drop (at + length text) old)
 pub record Wrote (old : List ℕ) (at : ℕ) (text new : List ℕ) (r : ℕ) : Type 0 where
   pub new-is : new ≡ written old at text
   pub r-is : r ≡ at + length text
+
+pub record Writes (P : List ℕ → Type 0) (old : List ℕ) (at : ℕ) (new : List ℕ) (r : ℕ) : Type 0 where
+  pub text : List ℕ
+  pub is : P text
+  pub wrote : Wrote old at text new r
