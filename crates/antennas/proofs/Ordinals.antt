@@ -3,7 +3,8 @@
 --   nth-within   an ordinal that names a record is from 1 to the number of records
 --   nth-unique   an ordinal names one record
 --   nth-append   more records behind change none of the ordinals
-use Prim.Native.Nat.{ℕ, _≤_, _<_}
+--   nth-exists   an ordinal from 1 to the number of records names one
+use Prim.Native.Nat.{ℕ, zero, suc, _≤_, _<_}
 use mathlib.Core.Path.{_≡_, refl}
 use mathlib.Core.List.{List, [], _∷_, _++_}
 use native.Mathlib.Omega.{arith}
@@ -35,3 +36,9 @@ nth-cons (later k) f g = g _ k
 
 pub nth-none : {n : ℕ} {e : Entry} → Nth n [] e → ⊥
 nth-none k = omega (arith, nth-within k)
+
+pub nth-exists : (n : ℕ) (es : List Entry) → 0 < n → n ≤ length es → (e : Entry) × Nth n es e
+nth-exists zero es low high = absurd (omega arith)
+nth-exists (suc n) [] low high = absurd (omega arith)
+nth-exists (suc zero) (e ∷ es) low high = (e, here)
+nth-exists (suc (suc n)) (d ∷ es) low high = let r = nth-exists (suc n) es (omega arith) (omega arith) in (r .0, later (r .1))

@@ -1,23 +1,26 @@
--- Any two results that meet a contract are equal.
+-- Any two results that meet a contract are equal, and there is one.
 --
 --   asked-unique, reads-unique   one answer to a question, and its numbers are those of the answer
 --   read-about-unique            the twin's answers are equal
+--   read-exists                  every question has an answer
 --   part-unique, lies-unique     the parts are equal as lists of bytes, and lie at one address
 --   read-part-unique             both: any two parts that meet the contract are one part
-use Prim.Native.Nat.{ℕ, _<_}
+use Prim.Native.Nat.{ℕ, _≤_, _<_}
 use mathlib.Core.Path.{_≡_, refl, sym, ap, _∙_}
-use mathlib.Core.Logic.{_⊎_, ⊎-elim}
+use mathlib.Core.Logic.{_⊎_, inl, inr, ⊎-elim}
 use mathlib.Core.List.{List}
 use native.Mathlib.Omega.{arith}
+use native.Mathlib.Decide.{decLe}
 use lib.ListN.{length}
 use Rattle.records.specs.declared.Refusal.{Refusal}
 use Rattle.records.specs.declared.Form.{Form}
 use Rattle.records.specs.declared.Form.the-variants as F
-use Rattle.records.specs.Block.{Entry}
+use Rattle.records.specs.Block.{meters, Entry, parse, formOf}
+use Rattle.records.specs.Named.{named}
 use Rattle.antennas.specs.declared.About.{About}
 use Rattle.antennas.specs.declared.About.the-variants as A
 use Rattle.antennas.specs.Antennas.{Nth, seenOf, readNumber, readPlace, readCount, readAntenna, readStart, readLength, Asked, found, bad-meter, no-record, Reads, by-first, by-second, neither, Read, partOf, Part, Address, partAt, Lies}
-use Rattle.antennas.proofs.Ordinals.{nth-within, nth-unique}
+use Rattle.antennas.proofs.Ordinals.{nth-within, nth-unique, nth-exists}
 
 sound-refused : {b : Form} {x : Refusal} → b ≡ F.Sound → b ≡ F.Refused x → ⊥
 sound-refused p q = let z : _≡_ {A = ℕ} 0 1 = cc in omega arith
@@ -67,6 +70,33 @@ pub reads-numbers : {first second : List ℕ} {meter ordinal : ℕ} {r : About} 
 reads-numbers (by-first f k) = asked-numbers k
 reads-numbers (by-second f g k) = asked-numbers k
 reads-numbers (neither f g) = record { refusal-is = refl; place-is = refl; count-is = refl; antenna-is = refl; start-is = refl; length-is = refl }
+
+-- ---- every question has an answer
+Answered : ℕ → List ℕ → ℕ → ℕ → Type 0
+Answered antenna block meter ordinal = (r : About) × Asked antenna block meter ordinal r (readNumber r) (readPlace r) (readCount r) (readAntenna r) (readStart r) (readLength r)
+
+asked-exists : (antenna : ℕ) (block : List ℕ) (meter ordinal : ℕ) → Answered antenna block meter ordinal
+unfolding Answered
+asked-exists antenna block meter ordinal = go (decLe 1 meter) (decLe meter meters) (decLe 1 ordinal) (decLe ordinal (length es))
+  where
+    es : List Entry
+    es = named meter (parse block .records)
+
+    go : Dec (1 ≤ meter) → Dec (meter ≤ meters) → Dec (1 ≤ ordinal) → Dec (ordinal ≤ length es) → Answered antenna block meter ordinal
+    go (no l) h o e = (A.BadMeter, bad-meter (λ m. l (m .0)))
+    go (yes l) (no h) o e = (A.BadMeter, bad-meter (λ m. h (m .1)))
+    go (yes l) (yes h) (no o) e = (A.NoRecord, no-record (l, h) (inr (omega arith)))
+    go (yes l) (yes h) (yes o) (no e) = (A.NoRecord, no-record (l, h) (inl (omega arith)))
+    go (yes l) (yes h) (yes o) (yes e) = let k = nth-exists ordinal es o e in (A.Found (seenOf antenna (k .0)), found (l, h) (k .1))
+
+pub read-exists : (first second : List ℕ) (meter ordinal : ℕ) → (r : About) × Read first second meter ordinal r
+unfolding Answered
+read-exists first second meter ordinal = go (formOf first) (formOf second) refl refl
+  where
+    go : (f g : Form) → formOf first ≡ f → formOf second ≡ g → (r : About) × Read first second meter ordinal r
+    go F.Sound g p q = let a = asked-exists 1 first meter ordinal in (a .0, by-first p (a .1))
+    go (F.Refused x) F.Sound p q = let a = asked-exists 2 second meter ordinal in (a .0, by-second p q (a .1))
+    go (F.Refused x) (F.Refused y) p q = (A.Malformed x, neither p q)
 
 -- ---- the contracts
 pub number-unique : (r : About) (x y : ℕ) → x ≡ readNumber r → y ≡ readNumber r → x ≡ y
