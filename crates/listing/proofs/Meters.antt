@@ -1,4 +1,9 @@
 -- What learning answers for a meter decides which line it has.
+--
+--   learns-answer, learns-none            what an answer of learning says of its meter
+--   answer-asked, answer-inside, none-asked   .. and of its place and its fraction
+--   both, nothing                         the two clauses of the contract of `line`, where a line was written and where none was
+--   line-empty .. line-none               the line, by the answer
 use mathlib.Core.Path.{_≡_, refl, sym, subst}
 use mathlib.Core.Logic.{inl, inr}
 use mathlib.Core.List.{List, [], _∷_, _++_, append-assoc}
@@ -16,10 +21,10 @@ use Rattle.by_meter.specs.ByMeter as M
 use Rattle.by_meter.specs.declared.ByMeter.{ByMeter}
 use Rattle.by_meter.specs.declared.ByMeter.the-variants as Answers
 use Rattle.io.specs.Counts.{Counts}
-use Rattle.text.specs.Text.{Wrote, decimalOf}
+use Rattle.text.specs.Text.{Wrote, Writes, decimalOf}
 use Rattle.text.proofs.Writing.{wrote-then, wrote-counts}
-use Rattle.phrases.specs.Phrases.{Piece, spaced}
-use Rattle.listing.specs.Lines.{lineEnd, noneWord, HasBits, Lines, silent, fraction, none, Writes}
+use Rattle.phrases.specs.Phrases.{lineEnd, Piece, spaced}
+use Rattle.listing.specs.Lines.{noneWord, HasBits, Lines, silent, fraction, none, lineSize}
 use Rattle.listing.specs.Pieces.{Rest, rest}
 
 abbrev learns : List ℕ → ℕ → ByMeter → Type 0
@@ -52,8 +57,11 @@ unknown-not (M.unknown e (inr l)) b = omega (arith, b .asked .high)
 
 -- ---- the lines
 
-pub both : {P : List ℕ → Type 0} {old new : List ℕ} {r : ℕ} → Writes P old 0 new r → length new ≡ length old → Writes P old 0 new r × Counts r new
-both w e = (w, wrote-counts (w .wrote) e)
+pub both : {P : List ℕ → Type 0} {old new : List ℕ} {r : ℕ} → Writes P old 0 new r → length new ≡ length old → length old ≡ lineSize → Writes P old 0 new r × (Counts r new × (r ≤ lineSize))
+both w e l = let k = wrote-counts (w .wrote) e in (w, (k, omega (arith, k .0)))
+
+pub nothing : {P : List ℕ → Type 0} {old : List ℕ} → Writes P old 0 old 0 → Writes P old 0 old 0 × (Counts 0 old × (0 ≤ lineSize))
+nothing w = (w, (wrote-counts (w .wrote) refl, omega arith))
 
 silence : {s : List ℕ} {m : ℕ} (old : List ℕ) → (HasBits s m → ⊥) → Writes (Lines s m) old 0 old 0
 silence old n = record { text = []; is = silent n; wrote = record { new-is = refl; r-is = refl } }

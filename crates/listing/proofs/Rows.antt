@@ -7,11 +7,11 @@ use lib.ListN.{length}
 use native.Mathlib.Omega.{arith}
 use Rattle.registers.specs.Answers.{Loads, loaded}
 use Rattle.registers.specs.declared.Register.{Register}
-use Rattle.text.specs.Text.{Wrote, decimalOf}
+use Rattle.text.specs.Text.{Wrote, Writes, decimalOf}
 use Rattle.text.proofs.Writing.{wrote-then}
-use Rattle.phrases.specs.Phrases.{Piece, space, spaced}
+use Rattle.phrases.specs.Phrases.{Piece, space, lineEnd, spaced}
 use Rattle.phrases.proofs.Pieces.{decimal-piece, word-piece, piece-then, room-after}
-use Rattle.listing.specs.Lines.{lineEnd, row, Writes}
+use Rattle.listing.specs.Lines.{row}
 use Rattle.listing.specs.Pieces.{registered, Way, way, Rest, rest}
 
 -- two numbers with a space between, and a line end

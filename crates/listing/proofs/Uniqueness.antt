@@ -2,7 +2,7 @@
 --
 --   last-unique    the last two fields are determined by the register
 --   lines-unique   a meter has one line
---   writes-unique  so every byte and the answer are determined
+--   line-unique    so every byte and the answer of `line` are determined
 --   row-unique     two rows that are equal have the same fields, none of which holds a space or a line end
 --   line-says      two lines that are equal say the same meter, count, p, q and memory
 use mathlib.Core.Path.{_≡_, refl, sym, ap, subst}
@@ -20,11 +20,11 @@ use Rattle.walking.specs.Walks as W
 use Rattle.walking.proofs.Walks.{loops-unique}
 use Rattle.places.specs.Places.{burst}
 use Rattle.by_meter.proofs.Answers.{meter-unique}
-use Rattle.text.specs.Text.{Wrote, decimalOf, signedOf}
+use Rattle.text.specs.Text.{Writes, decimalOf, signedOf}
 use Rattle.text.proofs.Digits.{Above, decimal-above, signed-above, decimal-unique, signed-unique, field-unique}
-use Rattle.text.proofs.Writing.{wrote-unique}
+use Rattle.text.proofs.Writing.{writes-unique}
 use Rattle.phrases.specs.Phrases.{space}
-use Rattle.listing.specs.Lines.{row, LastTwo, walked, past, Lines, silent, fraction, none, Writes}
+use Rattle.listing.specs.Lines.{row, LastTwo, walked, past, Lines, silent, fraction, none}
 
 pub last-unique : {g : Register} {a b a' b' : List ℕ} → LastTwo g a b → LastTwo g a' b' → (a ≡ a') × (b ≡ b')
 last-unique (walked (W.walked v l e k)) (walked (W.walked v' l' e' k')) = let u = loops-unique l l' in (ap decimalOf (u .0), ap decimalOf (u .1))
@@ -56,9 +56,8 @@ lines-unique (none b h) (silent n) = absurd (n b)
 lines-unique {s} {m} (none b h) (fraction b' h' l' e') = absurd (omega (arith, meter-unique s m _ _ _ _ _ _ h h' .0))
 lines-unique (none b h) (none b' h') = refl
 
-pub writes-unique : {s : List ℕ} {m : ℕ} {old new new' : List ℕ} {at r r' : ℕ} → Writes (Lines s m) old at new r → Writes (Lines s m) old at new' r' → (new ≡ new') × (r ≡ r')
-writes-unique {old = old} {new' = new'} {at = at} {r' = r'} v w =
-    wrote-unique (v .wrote) (subst (λ (t : List ℕ). Wrote old at t new' r') (sym (lines-unique (v .is) (w .is))) (w .wrote))
+pub line-unique : {s : List ℕ} {m : ℕ} {old new new' : List ℕ} {at r r' : ℕ} → Writes (Lines s m) old at new r → Writes (Lines s m) old at new' r' → (new ≡ new') × (r ≡ r')
+line-unique = writes-unique (λ t t' p q. lines-unique p q)
 
 -- ---- reading a line back
 

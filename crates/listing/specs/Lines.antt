@@ -6,8 +6,8 @@
 --   LastTwo g lead period   lead-in and period: "The walk's allowance is 65,536; past it the last two are "-"."
 --   Lines s meter text      the line of a meter, empty where it has none: "Fields ..: meter, bit count, p, q, cells (r), loaded memory, lead-in,
 --                           period. .. With refusal 3 the line is meter, count, "none"."
---   Writes P old at new r   a text of the kind P was written at `at`, r is the position behind it, and every other byte is as it was
--- The law `lines-unique` says that a meter has one line, `writes-unique` that two answers that meet a contract are the same.
+--   lineSize                the most bytes that a line takes
+-- The laws `lines-unique` and `lines-exists` say that a meter has one line.
 use mathlib.Core.List.{List, [], _∷_, _++_}
 use Prim.Native.Nat.{ℕ, _<_}
 use lib.IntN.{ℤ, pos}
@@ -18,12 +18,8 @@ use Rattle.registers.specs.declared.Register.{Register}
 use Rattle.walking.specs.Walks.{Walks}
 use Rattle.places.specs.Places.{burst, HasPlace}
 use Rattle.by_meter.specs.ByMeter.{LearnsMeter}
-use Rattle.text.specs.Text.{Wrote, decimalOf, signedOf}
-use Rattle.phrases.specs.Phrases.{space}
-
--- the ASCII code of a line end
-abbrev pub lineEnd : ℕ
-lineEnd = 10
+use Rattle.text.specs.Text.{decimalOf, signedOf}
+use Rattle.phrases.specs.Phrases.{space, lineEnd}
 
 -- "-" and "none"
 abbrev pub dash : List ℕ
@@ -66,7 +62,5 @@ pub data Lines (s : List ℕ) (meter : ℕ) : List ℕ → Type 0 where
       → Lines s meter (row (decimalOf meter) (decimalOf (length (burst s meter)) ∷ signedOf p ∷ decimalOf q ∷ decimalOf (cellCount q) ∷ signedOf (g .memory) ∷ lead ∷ period ∷ []))
   none : HasBits s meter → LearnsMeter s meter 3 (pos 0) 0 → Lines s meter (row (decimalOf meter) (decimalOf (length (burst s meter)) ∷ noneWord ∷ []))
 
-pub record Writes (P : List ℕ → Type 0) (old : List ℕ) (at : ℕ) (new : List ℕ) (r : ℕ) : Type 0 where
-  pub text : List ℕ
-  pub is : P text
-  pub wrote : Wrote old at text new r
+abbrev pub lineSize : ℕ
+lineSize = 96

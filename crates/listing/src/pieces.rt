@@ -4,8 +4,8 @@ ghost use Prim.Native.Nat.{_+_, _≤_};
 ghost use lib.ListN.{length};
 ghost use Rattle.fractions.specs.Pairs.{Inside};
 ghost use Rattle.registers.specs.Registers.{Valid, cellCount};
+ghost use Rattle.text.specs.Text.{Writes};
 ghost use Rattle.phrases.specs.Phrases.{Piece};
-ghost use Rattle.listing.specs.Lines.{Writes};
 ghost use Rattle.listing.specs.Pieces.{registered, Way, Rest};
 use registers::Register;
 

@@ -1,5 +1,6 @@
 -- What the listing program and the program `read` both print, as text.
 --
+--   space, lineEnd                 the ASCII codes of a space and of a line end
 --   spaced field                   a field and the space behind it: "Fields, one space between"
 --   refusedText n                  "refused N"
 --   placedText n p                 the same with its place: "A refused block prints only "refused N at P"."
@@ -9,9 +10,11 @@ use Prim.Native.Nat.{ℕ, _≤_}
 use lib.ListN.{length}
 use Rattle.text.specs.Text.{Wrote, decimalOf}
 
--- the ASCII code of a space
 abbrev pub space : ℕ
 space = 32
+
+abbrev pub lineEnd : ℕ
+lineEnd = 10
 
 abbrev pub spaced : List ℕ → List ℕ
 spaced field = field ++ (space ∷ [])

@@ -3,7 +3,7 @@ use native.Mathlib.Omega.{arith}
 use mir.Syntax.{w32}
 use mir.ValLaws.{toZ-ofZ}
 use Rattle.by_meter.specs.ByMeter.{LearnsMeter}
-use Rattle.listing.proofs.Meters.{both, learns-answer, learns-none, answer-asked, answer-inside, none-asked, line-empty, line-damaged, line-unknown, line-fraction, line-none}
+use Rattle.listing.proofs.Meters.{both, nothing, learns-answer, learns-none, answer-asked, answer-inside, none-asked, line-empty, line-damaged, line-unknown, line-fraction, line-none}
 use borrow.Author.Needs.{needs}
 use Rattle.listing.proofs.line.Statement.{statement}
 use Rattle.listing.proofs.line.Tie as tie
@@ -22,7 +22,7 @@ bit-count-requires : tie.Need-bit-count-requires
 bit-count-requires c κs = answer-asked (known (c .before))
 
 returns : tie.Need-returns
-returns c = both (line-empty (c .before .before .before .before .before .before .before .args .store .now) (c .before .before .before .before .before .before .before .args .meter) _ (c .before .bit-count .ensures) (c .if1 .taken)) (search needs)
+returns c = nothing (line-empty (c .before .before .before .before .before .before .before .args .store .now) (c .before .before .before .before .before .before .before .args .meter) _ (c .before .bit-count .ensures) (c .if1 .taken))
 
 head-requires : tie.Need-head-requires
 head-requires c κs = search needs
@@ -60,7 +60,7 @@ returns-2 c = both (
     let f = n .before .before in
     line-fraction _ _ _ (n .bit-count .ensures) (h .head .ensures) (omega arith) (h .before .before .if1 .left) (known f)
     (rw (toZ-ofZ w32 (f .f .given .0 .0 .p) (record { sfits = c .before .struct-told .given .0 .1 })) at (c .rest .ensures))
-    ) (search needs)
+    ) (search needs) (search needs)
 
 returns-3 : tie.Need-returns-3
 returns-3 c = both (
@@ -69,13 +69,13 @@ returns-3 c = both (
     let e = n .before in
     line-none _ _ _ (n .bit-count2 .ensures) (h .head2 .ensures) (omega arith) (learns-none (e .before .before .learn-meter .ensures) (e .enum-told .given .1))
     (c .word .ensures)
-    ) (search needs)
+    ) (search needs) (search needs)
 
 returns-4 : tie.Need-returns-4
-returns-4 c = both (line-damaged _ (c .before .before .learn-meter .ensures) (c .enum-told2 .given .1)) (search needs)
+returns-4 c = nothing (line-damaged _ (c .before .before .learn-meter .ensures) (c .enum-told2 .given .1))
 
 returns-5 : tie.Need-returns-5
-returns-5 c = both (line-unknown _ (c .before .before .learn-meter .ensures) (c .enum-told3 .given .1)) (search needs)
+returns-5 c = nothing (line-unknown _ (c .before .before .learn-meter .ensures) (c .enum-told3 .given .1))
 
 pub line-spec : {M : Type 1} → statement M
 line-spec =
