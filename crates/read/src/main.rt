@@ -1,61 +1,14 @@
 // read METER ORDINAL FIRST SECOND: the record of a meter with that ordinal, out of the first antenna's block or the second's. Prints one line:
-// antenna, bit count and the payload in hexadecimal, or "refused N", with " at P" where there is a place. Where an argument or a file cannot be
-// used, it says so on standard error and prints nothing.
+// antenna, bit count and the payload in hexadecimal, or "refused N", with " at P" where there is a place. It only reads, calls and writes: what it
+// prints is `read_text::print` of its arguments and its files. Where one cannot be used, it says so on standard error and prints nothing.
 use libc::STDERR_FILENO;
 use libc::STDOUT_FILENO;
 
 // One byte more than the longest block, so that a longer file is seen and refused, and not cut.
 const MOST: usize = records::BLOCK_BYTES + 1;
 
-// The largest number of an argument: what a u32 holds.
-const LARGEST: usize = 4294967295;
-
-enum Number {
-    Is(u32),
-    No,
-}
-
-// A number below 2^32, in decimal digits.
-fn parsed(digits: &[u8]) -> Number {
-    if digits.len() == 0 {
-        return Number::No;
-    }
-    let mut n: usize = 0;
-    let mut i = 0;
-    while i < digits.len() {
-        let d = digits[i];
-        if d < b'0' {
-            return Number::No;
-        }
-        if b'9' < d {
-            return Number::No;
-        }
-        n = 10 * n + bits::wide(d - b'0');
-        if LARGEST < n {
-            return Number::No;
-        }
-        i += 1;
-    }
-    Number::Is(n as u32)
-}
-
-fn number_argument(i: usize, name: &[u8]) -> Number {
-    let mut digits = [0u8; 32];
-    let n = os::arg(i, &mut digits);
-    let x = parsed(&digits[..n]);
-    match x {
-        Number::Is(_) => x,
-        Number::No => {
-            io::write_all(STDERR_FILENO, b"read: ");
-            io::write_all(STDERR_FILENO, name);
-            io::write_all(
-                STDERR_FILENO,
-                b" is to be a number from 0 to 4294967295, in decimal digits\n",
-            );
-            x
-        }
-    }
-}
+// The most digits of an argument.
+const DIGITS: usize = 32;
 
 fn open(path: &[u8]) -> i32 {
     let fd = os::open_read(path);
@@ -77,14 +30,32 @@ fn say_broken(path: &[u8]) {
     os::fail(path);
 }
 
-fn print<'a>(first: &'a [u8], second: &'a [u8], meter: u32, ordinal: u32) {
-    let mut line = [0u8; reading::LINE];
-    let n = reading::line(&mut line, first, second, meter, ordinal);
-    io::write_all(STDOUT_FILENO, &line[..n]);
-    io::write_all(STDOUT_FILENO, b"\n");
+fn say_no_number(name: &[u8]) {
+    io::write_all(STDERR_FILENO, b"read: ");
+    io::write_all(STDERR_FILENO, name);
+    io::write_all(
+        STDERR_FILENO,
+        b" is to be a number from 0 to 4294967295, in decimal digits\n",
+    );
 }
 
-fn answer(first_path: &[u8], second_path: &[u8], meter: u32, ordinal: u32) {
+// An argument of more digits counts as none at all: `os::arg` answers 0 for it.
+fn print<'a>(first: &'a [u8], second: &'a [u8]) {
+    let mut meter = [0u8; DIGITS];
+    let m = os::arg(1, &mut meter);
+    let mut ordinal = [0u8; DIGITS];
+    let o = os::arg(2, &mut ordinal);
+    let mut out = [0u8; read_text::TEXT];
+    match read_text::print(&meter[..m], &ordinal[..o], first, second, &mut out) {
+        read_text::Printed::Line(n) => {
+            io::write_all(STDOUT_FILENO, &out[..n]);
+        }
+        read_text::Printed::NoMeter => say_no_number(b"METER"),
+        read_text::Printed::NoOrdinal => say_no_number(b"ORDINAL"),
+    }
+}
+
+fn answer(first_path: &[u8], second_path: &[u8]) {
     let one = open(first_path);
     if one < 0 {
         return;
@@ -105,7 +76,7 @@ fn answer(first_path: &[u8], second_path: &[u8], meter: u32, ordinal: u32) {
         say_broken(second_path);
         return;
     }
-    print(&first[..n], &second[..m], meter, ordinal);
+    print(&first[..n], &second[..m]);
 }
 
 // Whether the argument that was just taken was longer than the bytes that it was to be put in.
@@ -127,12 +98,6 @@ fn main() {
         );
         return;
     }
-    let Number::Is(meter) = number_argument(1, b"METER") else {
-        return;
-    };
-    let Number::Is(ordinal) = number_argument(2, b"ORDINAL") else {
-        return;
-    };
     let mut first = io::buffer();
     let n = os::arg(3, &mut first);
     if is_cut() {
@@ -145,5 +110,5 @@ fn main() {
         say_cut(b"SECOND");
         return;
     }
-    answer(&first[..n], &second[..m], meter, ordinal);
+    answer(&first[..n], &second[..m]);
 }

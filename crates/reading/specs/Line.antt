@@ -3,14 +3,14 @@
 --   hexOf bytes          two digits for each byte, 0 to 9 and A to F, the high one first
 --   lineOf r part        the line for an answer and its part, without the line end
 --   lineSize             the most bytes that a line takes
---   Prints first second meter ordinal old new r   `new` is `old` with that line over its first bytes, and r is the line's length,
---                        which `new` has room for
+--   Tells first second meter ordinal text   the line of the question: "we name a meter and an ordinal from 1"; "a twin question over the same inputs answers the
+--                        bit count and the antenna, 1 or 2, or the refusal"
+-- The laws `tells-unique` and `tells-exists` say that a question has one line.
 use Prim.Native.Nat.{ℕ, _+_, _/_, _%_}
 use mathlib.Core.Bool.{cond}
 use mathlib.Core.List.{List, [], _∷_, _++_}
 use lib.Dec.{ltb}
-use Rattle.io.specs.Counts.{Counts}
-use Rattle.text.specs.Text.{decimalOf, Wrote}
+use Rattle.text.specs.Text.{decimalOf}
 use Rattle.phrases.specs.Phrases.{spaced, refusedText, placedText}
 use Rattle.records.specs.Block.{numberOf, placeOf}
 use Rattle.antennas.specs.declared.About.{About}
@@ -41,10 +41,5 @@ lineOf A.NoRecord part = refusedText 18
 abbrev pub lineSize : ℕ
 lineSize = 150
 
-pub record Prints (first second : List ℕ) (meter ordinal : ℕ) (old new : List ℕ) (r : ℕ) : Type 0 where
-  pub about : About
-  pub read : Read first second meter ordinal about
-  pub part : List ℕ
-  pub part-is : Part first second meter ordinal part
-  pub wrote : Wrote old 0 (lineOf about part) new r
-  pub counts : Counts r new
+pub data Tells (first second : List ℕ) (meter ordinal : ℕ) : List ℕ → Type 0 where
+  told : {about : About} {part : List ℕ} → Read first second meter ordinal about → Part first second meter ordinal part → Tells first second meter ordinal (lineOf about part)

@@ -1,10 +1,12 @@
-// What the program `read` prints for one question, as text on lent bytes. The contracts cite Line of specs/.
+// The line that the program `read` prints for one question, as text on lent bytes. The contracts cite Line of specs/; that the length is inside
+// the bytes is said besides, so that callers may lend `&out[..n]`.
 ghost use mathlib.Core.Path.{_≡_};
 ghost use Prim.Native.Nat.{_+_, _*_, _<_, _≤_};
 ghost use lib.ListN.{length};
-ghost use Rattle.text.specs.Text.{Wrote};
+ghost use Rattle.io.specs.Counts.{Counts};
+ghost use Rattle.text.specs.Text.{Wrote, Writes};
 ghost use Rattle.records.specs.Block.{recordBits, bytesFor};
-ghost use Rattle.reading.specs.Line.{hexDigit, hexByte, hexOf, foundLine, lineSize, Prints};
+ghost use Rattle.reading.specs.Line.{hexDigit, hexByte, hexOf, foundLine, lineSize, Tells};
 
 // The most bytes that a line takes.
 pub const LINE: usize = 150;
@@ -48,7 +50,7 @@ fn found(out: &mut [u8], antenna: u32, count: usize, part: &[u8]) -> usize
     hex(out, next, part)
 }
 
-// Writes the line at the start of the bytes and answers its length.
+// The line at the start of the bytes, without its line end, and its length.
 pub fn line<'a>(
     out: &mut [u8; LINE],
     first: &'a [u8],
@@ -56,7 +58,8 @@ pub fn line<'a>(
     meter: u32,
     ordinal: u32,
 ) -> usize
-    ensures { λ r. ⌜ Prints (now (first .entry)) (now (second .entry)) meter ordinal (now (out .entry)) (now (out .exit)) r ⌝ }
+    ensures { λ r. ⌜ Writes (Tells (now (first .entry)) (now (second .entry)) meter ordinal) (now (out .entry)) 0 (now (out .exit)) r ⌝ }
+    ensures { λ r. ⌜ Counts r (now (out .exit)) × (r ≤ lineSize) ⌝ }
 {
     let about = antennas::read_about(first, second, meter, ordinal);
     let part = antennas::read_part(first, second, meter, ordinal);

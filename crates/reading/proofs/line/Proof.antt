@@ -4,7 +4,7 @@ use Rattle.antennas.specs.declared.About.{About}
 use Rattle.antennas.specs.Antennas.{readNumber}
 use Rattle.phrases.specs.Phrases.{refusedText, placedText}
 use Rattle.reading.specs.Line.{lineOf}
-use Rattle.reading.proofs.Answers.{found-fits, prints}
+use Rattle.reading.proofs.Answers.{found-fits, tells}
 use borrow.Author.Needs.{needs}
 use Rattle.reading.proofs.line.Statement.{statement}
 use Rattle.reading.proofs.line.Tie as tie
@@ -58,13 +58,13 @@ returns : tie.Need-returns
 returns c =
     let x = c .before .before .before in
     let p = x .before .before in
-    prints _ _ _ _ (p .before .read-about .ensures) (p .read-part .ensures .0) (search needs) (ap (λ (a : About). lineOf a (p .read-part .result .now)) (sym (x .about .given .1))) (c .found .ensures)
+    tells _ _ _ _ (p .before .read-about .ensures) (p .read-part .ensures .0) (search needs) (search needs) (ap (λ (a : About). lineOf a (p .read-part .result .now)) (sym (x .about .given .1))) (c .found .ensures)
 
 returns-2 : tie.Need-returns-2
 returns-2 c =
     let y = c .before .before .before .before .before in
     let p = y .before .before in
-    prints _ _ _ _ (p .before .read-about .ensures) (p .read-part .ensures .0) (search needs)
+    tells _ _ _ _ (p .before .read-about .ensures) (p .read-part .ensures .0) (search needs) (search needs)
     ((λ i. placedText (c .before .before .number .ensures i) (c .before .place .ensures i)) ∙ ap (λ (a : About). lineOf a (p .read-part .result .now)) (sym (y .about2 .given .1)))
     (c .placed .ensures .wrote)
 
@@ -72,7 +72,7 @@ returns-3 : tie.Need-returns-3
 returns-3 c =
     let e = c .before .before .before in
     let p = e .before .before in
-    prints _ _ _ _ (p .before .read-about .ensures) (p .read-part .ensures .0) (search needs)
+    tells _ _ _ _ (p .before .read-about .ensures) (p .read-part .ensures .0) (search needs) (search needs)
     (ap refusedText (c .before .number2 .ensures ∙ ap readNumber (e .enum-told .given .1)) ∙ ap (λ (a : About). lineOf a (p .read-part .result .now)) (sym (e .enum-told .given .1)))
     (c .refused .ensures .wrote)
 
@@ -80,7 +80,7 @@ returns-4 : tie.Need-returns-4
 returns-4 c =
     let e = c .before .before .before in
     let p = e .before .before in
-    prints _ _ _ _ (p .before .read-about .ensures) (p .read-part .ensures .0) (search needs)
+    tells _ _ _ _ (p .before .read-about .ensures) (p .read-part .ensures .0) (search needs) (search needs)
     (ap refusedText (c .before .number3 .ensures ∙ ap readNumber (e .enum-told2 .given .1)) ∙ ap (λ (a : About). lineOf a (p .read-part .result .now)) (sym (e .enum-told2 .given .1)))
     (c .refused2 .ensures .wrote)
 
