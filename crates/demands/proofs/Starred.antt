@@ -5,6 +5,7 @@
 --   load p q a m p' q' L T       (p, q) loads the cells a and the memory m; they read back (p', q'); their lead-in is L and their period T, so that the allowance
 --                                L + T answers and L + T - 1 refuses ("Allowance 36 answers, 35 refuses.")
 --   Holds                        what the document says of a row, in the words of the contracts
+--   test, holds                  the test of a row, and that a row that passes it holds
 --   starred                      every row holds
 use mathlib.Core.Path.{_≡_, refl, sym, subst}
 use mathlib.Core.Bool.{Bool, true, _&&_}
@@ -79,7 +80,7 @@ enters-sound q p (suc L) o t =
     let u = and-T (ltb 0 (dist q (iterNum q L p))) (eqb (dist q (iterNum q (suc L) p)) 0) t in
     enters-suc q p L o (ltb→lt 0 (dist q (iterNum q L p)) (u .0)) (eqb→eq (dist q (iterNum q (suc L) p)) 0 (u .1))
 
-abbrev test : Row → Bool
+abbrev pub test : Row → Bool
 test (burst bits p q) = learnsb (packed bits) (length bits) p q
 test (tied bits p q p' q') =
     learnsb (packed bits) (length bits) p q && (insideb p' q' && (fitsb (length bits) (value (packed bits) (length bits)) p' q' && eqb (size p q) (size p' q')))
@@ -95,7 +96,7 @@ loops-sound : (p : ℤ) (q a : ℕ) (m : ℤ) (p' : ℤ) (q' L P : ℕ) → Load
 loops-sound p q a m p' q' L P (loaded i l f) (pair v w k) e o =
     (v, walk-of (register q a m) {p' = p'} {q' = q'} v w (subst (λ (z : ℤ). Enters q z L) (sym (load-numerator p q (register q a m) l)) (enters-sound q p L (v .odd) e)) (order-tested q' P o))
 
-holds : (x : Row) → T (test x) → Holds x
+pub holds : (x : Row) → T (test x) → Holds x
 holds (burst bits p q) t = learns-sound (packed bits) (length bits) p q t
 holds (tied bits p q p' q') t =
     let n = length bits in
