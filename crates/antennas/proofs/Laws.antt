@@ -15,10 +15,10 @@ use lib.Seq.{length-take-le, take-add, drop-at, drop-drop, take-append-le, drop-
 use borrow.Author.Tests.{eq-eqb, ne-eqb}
 use Rattle.bits.specs.Bits.{num, digits}
 use Rattle.records.specs.declared.Refusal.{Refusal}
-use Rattle.records.specs.declared.Refusal.the-variants.{TooLong, ShortHeader, WrongMark, BadMeter, BadCount, RunsPast, SpareBit}
 use Rattle.records.specs.declared.Form.the-variants as F
-use Rattle.records.specs.Block.{bytesFor, recordBits, blockBytes, payload, numberOf, Entry, parse, formOf}
+use Rattle.records.specs.Block.{bytesFor, recordBits, blockBytes, payload, Entry, parse, formOf}
 use Rattle.records.specs.Named.{named, bytesOf, moved}
+use Rattle.records.proofs.Unique.{number-some}
 use Rattle.records.proofs.Standing.{payload-long}
 use Rattle.records.proofs.Blocks.{form-parts, form-append}
 use Rattle.records.proofs.Positions.{form-placed}
@@ -107,15 +107,6 @@ pub record Agree (r : About) (bytes : List ℕ) : Type 0 where
   pub as-long : length bytes ≡ readLength r
   pub some : readNumber r ≡ 0 → 0 < length bytes
   pub none : (readNumber r ≡ 0 → ⊥) → bytes ≡ []
-
-number-some : (x : Refusal) → numberOf x ≡ 0 → ⊥
-number-some TooLong e = omega arith
-number-some (ShortHeader p) e = omega arith
-number-some (WrongMark p) e = omega arith
-number-some (BadMeter p) e = omega arith
-number-some (BadCount p) e = omega arith
-number-some (RunsPast p) e = omega arith
-number-some (SpareBit p) e = omega arith
 
 given-some : {antenna : ℕ} {block : List ℕ} {meter ordinal : ℕ} {x : Seen} → Given antenna block meter ordinal x → (0 < x .length) × (x .length ≡ bytesFor (x .count)) × (x .count ≤ recordBits)
 given-some g =

@@ -11,14 +11,12 @@ use Prim.Native.Nat.{ℕ, zero, suc, _≤_}
 use native.Mathlib.Omega.{arith}
 use lib.ListN.{length}
 use Rattle.io.specs.Counts.{Counts}
-use Rattle.records.specs.declared.Refusal.{Refusal}
-use Rattle.records.specs.declared.Refusal.the-variants as X
-use Rattle.records.specs.Block as block
 use Rattle.records.specs.Block.{meters}
 use Rattle.places.specs.Places.{fresh}
 use Rattle.store.specs.declared.Answer.{Answer}
 use Rattle.store.specs.declared.Answer.the-variants as A
 use Rattle.store.specs.Taking.{takeOf, numberOf, placeOf}
+use Rattle.store.proofs.After.{number-taken}
 use Rattle.text.specs.Text.{Wrote, Writes}
 use Rattle.text.proofs.Writing.{wrote-then, wrote-counts, writes-unique}
 use Rattle.phrases.specs.Phrases.{placedText}
@@ -26,22 +24,6 @@ use Rattle.listing.specs.Lines.{row, headerText}
 use Rattle.listing.proofs.Uniqueness.{lines-unique}
 use Rattle.listing.proofs.Existence.{lines-exists}
 use Rattle.list_text.specs.Prints.{UpTo, none, more, Prints, taken, refused}
-
--- only a block that was taken has the number 0
-no-refusal : (x : Refusal) → block.numberOf x ≡ 0 → ⊥
-no-refusal X.TooLong e = omega arith
-no-refusal (X.ShortHeader p) e = omega arith
-no-refusal (X.WrongMark p) e = omega arith
-no-refusal (X.BadMeter p) e = omega arith
-no-refusal (X.BadCount p) e = omega arith
-no-refusal (X.RunsPast p) e = omega arith
-no-refusal (X.SpareBit p) e = omega arith
-
-pub number-zero : (x : Answer) → numberOf x ≡ 0 → x ≡ A.Taken
-number-zero A.Taken e = refl
-number-zero A.NotAStore e = absurd (omega arith)
-number-zero (A.Malformed x) e = absurd (no-refusal x e)
-number-zero (A.NoRoom p) e = absurd (omega arith)
 
 module _ (block : List ℕ) {x : Answer} {n : ℕ} {old new : List ℕ} {r : ℕ} (answer : x ≡ takeOf fresh block .answer) (number : n ≡ numberOf x) (same : length new ≡ length old) where
   told : Writes (Prints block) old 0 new r → Writes (Prints block) old 0 new r × Counts r new
@@ -62,7 +44,7 @@ module _ (block : List ℕ) {x : Answer} {n : ℕ} {old new : List ℕ} {r : ℕ
   print-taken {s} none-is store w room v =
       told (record {
         text = headerText ++ v .text;
-        is = taken (sym answer ∙ number-zero x (sym number ∙ none-is)) (subst (λ (t : List ℕ). UpTo t meters (v .text)) store (v .is));
+        is = taken (sym answer ∙ number-taken x (sym number ∙ none-is)) (subst (λ (t : List ℕ). UpTo t meters (v .text)) store (v .is));
         wrote = wrote-then w room (v .wrote);
       })
 

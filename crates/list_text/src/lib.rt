@@ -8,6 +8,7 @@ ghost use Rattle.text.specs.Text.{Writes};
 ghost use Rattle.listing.specs.Lines.{Lines, lineSize};
 ghost use Rattle.list_text.specs.Prints.{UpTo, Prints, linesSize};
 
+// The meters, counted as `listing::line` takes their numbers.
 const METERS: u32 = records::METERS as u32;
 
 // The most bytes that a listing takes: 40 for the header, and a line for each meter.

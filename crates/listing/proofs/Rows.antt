@@ -1,4 +1,7 @@
 -- The pieces of a line are its fields, one space between.
+--
+--   two-numbers   two numbers and the line end are a row
+--   rest-of       the four fields of a register and what follows them are what follows the count
 use mathlib.Core.Path.{_≡_, sym, subst}
 use mathlib.Core.List.{List, [], _∷_, _++_, append-assoc}
 use Prim.Native.Nat.{ℕ, _+_, _^_, _≤_, _<_}

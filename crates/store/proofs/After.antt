@@ -7,6 +7,7 @@
 --   take-below          and bytes stay bytes
 --   take-lists          the lists afterwards are the old ones with the records' bits after them
 --   take-unique         any two results that meet the contract of `take` are equal; so for `number` and `place`
+--   number-taken        only a block that was taken has the number 0
 use Prim.Native.Nat.{ℕ}
 use mathlib.Core.Path.{_≡_, refl, sym, ap, _∙_, subst}
 use mathlib.Core.Bool.{Bool, true, false}
@@ -25,6 +26,7 @@ use Rattle.store.specs.declared.Answer.the-variants as A
 use Rattle.places.specs.Places.{isStore, bitsOf, encodeAll}
 use Rattle.room.specs.Rooms.{roomOf}
 use Rattle.store.specs.Taking.{appendAll, takeOf, numberOf, placeOf}
+use Rattle.records.proofs.Unique.{number-some}
 use Rattle.places.proofs.Encode.{Sound}
 use Rattle.store.proofs.Taking.{bad-store, bad-form, no-room, taken}
 use Rattle.places.proofs.Decode.{is-kept, same-lists, below-all}
@@ -111,3 +113,9 @@ number-unique r x y p q = p ∙ sym q
 
 pub place-unique : (r : Answer) (x y : ℕ) → x ≡ placeOf r → y ≡ placeOf r → x ≡ y
 place-unique r x y p q = p ∙ sym q
+
+pub number-taken : (x : Answer) → numberOf x ≡ 0 → x ≡ A.Taken
+number-taken A.Taken e = refl
+number-taken A.NotAStore e = absurd (omega arith)
+number-taken (A.Malformed x) e = absurd (number-some x e)
+number-taken (A.NoRoom p) e = absurd (omega arith)
