@@ -10,7 +10,6 @@ use native.Mathlib.Omega.{arith}
 use native.Mathlib.Nat.{mul-mod-right}
 use native.Mathlib.Decide.{ℕ-discrete, decLe}
 use lib.IntN.{ℤ, pos, negsuc, natAbs, _-ℤ_, _*ℤ_}
-use Rattle.integers.specs.Numbers.{Least}
 use Rattle.integers.proofs.Parts.{natAbs-*}
 use Rattle.integers.proofs.Finite.{le-or-gt, lt-or-ge, Found, seek}
 use Rattle.fractions.specs.Pairs.{limit, Inside, Fits, size, below, Then, NotAfter, Smallest, NoneFits}

@@ -5,9 +5,9 @@
 --   whole-unique   a question has one printed text
 --   print-unique   any two results that meet the contract of `print` are equal, the answers and every byte
 --   print-exists   .. and there is one
-use mathlib.Core.Path.{_≡_, refl, sym, ap, _∙_, subst}
+use mathlib.Core.Path.{_≡_, refl, ap, subst}
 use mathlib.Core.List.{List, [], _∷_, _++_}
-use Prim.Native.Nat.{ℕ, _+_, _≤_}
+use Prim.Native.Nat.{ℕ, _≤_}
 use native.Mathlib.Omega.{arith}
 use lib.ListN.{length, take}
 use Rattle.io.specs.Counts.{Counts}

@@ -15,7 +15,7 @@ use lib.Seq.{drop-cons}
 use Rattle.text.specs.declared.numerals.Number.{Number}
 use Rattle.text.specs.declared.numerals.Number.the-variants as N
 use Rattle.text.specs.Text.{digitOf, decimalOf}
-use Rattle.text.specs.Numerals.{Digits, valueFrom, valueOf, Numeral, Says, number, none}
+use Rattle.text.specs.Numerals.{Digits, valueFrom, valueOf, Says, number, none}
 use Rattle.text.proofs.Digits.{Spelt, single, longer, spelt, value-decimal}
 
 -- more digits never make a number smaller
