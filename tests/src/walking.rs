@@ -1,13 +1,14 @@
 //! "Lead-in is the least L, and period the least T >= 1, for which the state after L+T steps equals the state after L."
 //!
-//! Three methods, each exact: the states seen so far, for short walks; two walkers, for longer ones (both only by the step
-//! rule); and by the order of two, for the longest: "A state repeats without lead-in exactly when -q <= p <= 0, p unreduced", and the
-//! numerators p then go round with 2 modulo q/gcd(p, q).
+//! Three methods. Two know the step rule alone and compare states: `by_states_seen` remembers every state, `by_two_walkers` (Brent) holds
+//! two. The third, `by_order_of_two`, is quick and rests on a theorem, as the library does: "A state repeats without lead-in exactly when
+//! -q <= p <= 0, p unreduced", and the numerators p then go round with 2 modulo q/gcd(p, q). So above q = 100,000, where the reference takes
+//! it, the two could be wrong together, and the comparison walks some registers with q near a million and ten millions by the step rule.
 
 use crate::answers::{Register, Walked};
 use crate::fractions::gcd;
 use crate::periods::order_by_factors;
-use crate::registers::{is_valid, numerator, stepped};
+use crate::registers::{is_valid, length, numerator, stepped, tap};
 use std::collections::HashMap;
 
 fn next(register: Register) -> Register {
@@ -27,10 +28,30 @@ pub fn by_states_seen(start: Register, allowance: u32) -> Option<(u32, u32)> {
     None
 }
 
+/// The step rule of one q for millions of steps: the sum over the taps is the number of ones among the cells that are tapped.
+struct Stepper {
+    last: u32,
+    tapped: u32,
+}
+
+impl Stepper {
+    fn new(q: u32) -> Stepper {
+        let r = length(q);
+        let tapped = (1..=r).filter(|&k| tap(q, k) == 1).map(|k| 1 << (r - k)).sum();
+        Stepper { last: r as u32 - 1, tapped }
+    }
+
+    fn next(&self, register: Register) -> Register {
+        let s = register.memory as i64 + (register.cells & self.tapped).count_ones() as i64;
+        Register { q: register.q, cells: register.cells >> 1 | (s.rem_euclid(2) as u32) << self.last, memory: s.div_euclid(2) as i32 }
+    }
+}
+
 /// Two walkers (Brent): the period first, then the lead-in with one walker a period ahead.
 pub fn by_two_walkers(start: Register) -> (u32, u32) {
+    let stepper = Stepper::new(start.q);
     let mut waits = start;
-    let mut walks = next(start);
+    let mut walks = stepper.next(start);
     let mut period = 1;
     let mut power = 1;
     while waits != walks {
@@ -39,18 +60,18 @@ pub fn by_two_walkers(start: Register) -> (u32, u32) {
             power *= 2;
             period = 0;
         }
-        walks = next(walks);
+        walks = stepper.next(walks);
         period += 1;
     }
     let mut behind = start;
     let mut ahead = start;
     for _ in 0..period {
-        ahead = next(ahead);
+        ahead = stepper.next(ahead);
     }
     let mut lead = 0;
     while behind != ahead {
-        behind = next(behind);
-        ahead = next(ahead);
+        behind = stepper.next(behind);
+        ahead = stepper.next(ahead);
         lead += 1;
     }
     (lead, period)
@@ -81,16 +102,24 @@ pub fn walk_by(method: fn(Register) -> (u32, u32), register: Register, allowance
     }
 }
 
-/// The same by the step rule alone, where that does not take long.
+/// By the step rule alone, where that does not take long.
+pub fn method_for(q: u32) -> fn(Register) -> (u32, u32) {
+    if q <= 100_000 {
+        by_two_walkers
+    } else {
+        by_order_of_two
+    }
+}
+
 pub fn walk(register: Register, allowance: u32) -> Walked {
-    let method = if register.q <= 1000 { by_two_walkers } else { by_order_of_two };
-    walk_by(method, register, allowance)
+    walk_by(method_for(register.q), register, allowance)
 }
 
 #[cfg(test)]
 mod tests {
     use super::*;
-    use crate::registers::{length, load};
+    use crate::inputs::{any_register, Random};
+    use crate::registers::load;
 
     fn loaded(p: i32, q: u32) -> Register {
         load(p, q).state
@@ -105,6 +134,17 @@ mod tests {
         assert_eq!(walk(loaded(-5, 15), u32::MAX), Walked { refusal: 0, lead: 0, period: 2, sum: 2 });
         assert_eq!(walk(loaded(-37, 37), 1), Walked { refusal: 0, lead: 0, period: 1, sum: 1 });
         assert_eq!(walk(loaded(0, 1), 0).refusal, 6);
+    }
+
+    #[test]
+    fn a_count_of_ones_is_the_sum_over_the_taps() {
+        let mut random = Random::new(1, 0, 0);
+        for _ in 0..100_000 {
+            let register = any_register(&mut random);
+            if is_valid(register) {
+                assert_eq!(Stepper::new(register.q).next(register), next(register), "{register:?}");
+            }
+        }
     }
 
     #[test]

@@ -1,12 +1,12 @@
 //! One function for each function of the C interface: it makes the inputs of one case, asks the reference and the library, and compares
 //! the answers and everything lent.
 
-use crate::inputs::*;
 use crate::lent::{Bytes, Fenced};
 use crate::library::Library;
-use crate::pick;
 use reference::answers::{BLOCK_BYTES, METERS, MOST_BITS, PLACE_BYTES, WHITEN_BYTES};
 use reference::fractions::packed;
+use reference::inputs::*;
+use reference::pick;
 use reference::{antennas, fractions, learning, periods, registers, store, walking, whitening};
 use std::fmt::Debug;
 
@@ -156,19 +156,27 @@ fn step(library: &dyn Library, _: u64, random: &mut Random) -> Outcome {
     compare(expected.refusal, expected, library.step(register), || format!("{register:?}"))
 }
 
+/// One walk in a thousand has a q near a million or ten millions and is walked by the step rule alone, state by state.
+fn is_long_walk(case: u64) -> bool {
+    case % 1000 == 999
+}
+
 fn walk(library: &dyn Library, case: u64, random: &mut Random) -> Outcome {
     let mut register = any_register(random);
-    if case % 2 == 0 && registers::is_valid(register) && register.q > 4000 {
+    if is_long_walk(case) {
+        register = long_walker(random);
+    } else if case % 2 == 0 && registers::is_valid(register) && register.q > 4000 {
         // short periods are rare among large q
         let q = pick!(random, random.between(0, 2000) | 1, (1 << (random.below(30) + 1)) - 1, random.between(0, 70000) | 1);
         register.q = q as u32;
         register.cells &= (1 << registers::length(q as u32)) - 1;
     }
-    // exactly enough, one too few, and anything
-    let needed = match walking::walk(register, u32::MAX) {
+    let method = if is_long_walk(case) { walking::by_two_walkers } else { walking::method_for(register.q) };
+    let needed = match walking::walk_by(method, register, u32::MAX) {
         walked if walked.refusal == 0 => walked.sum,
         _ => 0,
     };
+    // exactly enough, one too few, and anything
     let allowance = match random.below(8) {
         0 | 1 => needed,
         2 | 3 => needed.saturating_sub(1),
@@ -177,12 +185,7 @@ fn walk(library: &dyn Library, case: u64, random: &mut Random) -> Outcome {
         6 => needed.saturating_sub(random.below(70) as u32),
         _ => random.next() as u32,
     };
-    // by the step rule alone, as far as there is time for it
-    let expected = if case % 100 == 0 && register.q <= 70_000 {
-        walking::walk_by(walking::by_two_walkers, register, allowance)
-    } else {
-        walking::walk(register, allowance)
-    };
+    let expected = walking::walk_by(method, register, allowance);
     compare(expected.refusal, expected, library.walk(register, allowance), || format!("{register:?}, allowance {allowance}"))
 }
 

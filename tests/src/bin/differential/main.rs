@@ -6,14 +6,13 @@
 //! It stops at the first difference, prints the inputs that reproduce it, and ends with status 1.
 
 mod cases;
-mod inputs;
 mod lent;
 mod library;
 mod planted;
 
 use cases::{Difference, Subject, SUBJECTS};
-use inputs::Random;
 use library::{Library, Linked};
+use reference::inputs::Random;
 use std::process::ExitCode;
 use std::sync::atomic::{AtomicBool, AtomicU64, Ordering};
 use std::sync::Mutex;

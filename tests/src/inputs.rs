@@ -1,9 +1,9 @@
-//! Inputs that seek the boundaries: each is made of numbers near a limit as often as of numbers drawn at random.
+//! Inputs to compare with, that seek the boundaries: each is made of numbers near a limit as often as of numbers drawn at random.
 
-use reference::answers::{Register, BLOCK_BYTES, LIMIT, METERS, MOST_BITS, MOST_MEMORY, PLACE_BYTES, RECORD_BITS, STORE_BYTES};
-use reference::fractions::bits_of;
-use reference::registers::{length, state_of};
-use reference::store::{record_of, records, store_of};
+use crate::answers::{Register, BLOCK_BYTES, LIMIT, METERS, MOST_BITS, MOST_MEMORY, PLACE_BYTES, RECORD_BITS, STORE_BYTES};
+use crate::fractions::bits_of;
+use crate::registers::{length, state_of};
+use crate::store::{record_of, records, store_of};
 
 /// A generator of random numbers (splitmix64): the same seed, the same inputs.
 pub struct Random(u64);
@@ -195,6 +195,13 @@ pub fn any_register(random: &mut Random) -> Register {
         _ => random.next() as u32 & top,
     };
     Register { q, cells, memory: any_memory(random) }
+}
+
+/// A register with q near a million or ten millions, with lead-in or without.
+pub fn long_walker(random: &mut Random) -> Register {
+    let q = pick!(random, 1_000_001, 10_000_001) + 2 * random.between(-20_000, 20_000);
+    let p = pick!(random, -random.between(0, q), -random.between(0, q), any_p(random, q) as i64, random.wide(44), -random.wide(44));
+    register_of(p as i128, q as u32).expect("a memory of 2^25 or less")
 }
 
 /// A number of bits: often at a boundary of the rules or of a method.
