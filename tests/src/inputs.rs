@@ -259,6 +259,15 @@ pub fn burst(random: &mut Random, n: usize) -> Vec<bool> {
     bits
 }
 
+/// The bits of a pair inside the limits, but for the last one, at a length where that bit alone decides.
+pub fn burst_wrong_at_its_end(random: &mut Random) -> Vec<bool> {
+    let n = pick!(random, MOST_BITS, MOST_BITS, MOST_BITS - 1, 64, 65, 96, 97);
+    let (p, q) = good_pair(random);
+    let mut bits = bits_of(p as i128, q as i128, n);
+    bits[n - 1] = !bits[n - 1];
+    bits
+}
+
 /// A burst of up to a few hundred bits.
 pub fn short_burst(random: &mut Random) -> Vec<bool> {
     let n = any_length(random);

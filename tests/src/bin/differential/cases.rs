@@ -1,7 +1,7 @@
 //! One function for each function of the C interface: it makes the inputs of one case, asks the reference and the library, and compares
 //! the answers and everything lent.
 
-use crate::lent::{Bytes, Fenced};
+use crate::lent::{any_side, Bytes, LentRegister};
 use crate::library::Library;
 use reference::answers::{BLOCK_BYTES, METERS, MOST_BITS, PLACE_BYTES, WHITEN_BYTES};
 use reference::fractions::packed;
@@ -51,7 +51,7 @@ fn compare<T: PartialEq + Debug>(refusal: u32, expected: T, found: T, inputs: im
     Err(Box::new(Difference { inputs: inputs(), expected: format!("{expected:?}"), found: format!("{found:?}") }))
 }
 
-/// Compares what was lent, guards included.
+/// Compares what was lent, and what stands beside it.
 fn compare_lent(outcome: Outcome, what: &str, expected: &Bytes, found: &Bytes, inputs: impl FnOnce() -> String) -> Outcome {
     let refusal = outcome?;
     if expected == found {
@@ -76,6 +76,9 @@ fn learn(library: &dyn Library, case: u64, random: &mut Random) -> Outcome {
         let n = (case + 1).ilog2();
         let value = case + 1 - (1 << n);
         ((value as u16).to_le_bytes()[..n.div_ceil(8) as usize].to_vec(), n as u64)
+    } else if case % 400 == 20 {
+        let bits = burst_wrong_at_its_end(random);
+        (packed(&bits), bits.len() as u64)
     } else if case % 40 == 0 {
         let n = long_length(random);
         let bits = burst(random, n);
@@ -103,7 +106,7 @@ fn learn(library: &dyn Library, case: u64, random: &mut Random) -> Outcome {
     } else {
         learning::learn(&bytes, count)
     };
-    let before = Bytes::new(&bytes, random.below(16));
+    let before = Bytes::new(&bytes, any_side(random));
     let mut lent = before.clone();
     let found = library.learn(&mut lent, count);
     let inputs = || format!("count {count}, {} bytes {}", bytes.len(), hex(&bytes));
@@ -122,7 +125,7 @@ fn learn_meter(library: &dyn Library, case: u64, random: &mut Random) -> Outcome
     let wrong = [0, 33, 34, 255, 256, 257, 1 << 16 | 1, u32::MAX, 1 << 31];
     let meter = if random.once_in(10) { random.pick(&wrong) } else { meter as u32 };
     let expected = store::learn_meter(&bytes, meter);
-    let before = Bytes::new(&bytes, random.below(16));
+    let before = Bytes::new(&bytes, any_side(random));
     let mut lent = before.clone();
     let found = library.learn_meter(&mut lent, meter);
     let inputs = || format!("meter {meter}, store of {} bytes {}", bytes.len(), hex(&bytes));
@@ -217,10 +220,13 @@ fn whiten(library: &dyn Library, case: u64, random: &mut Random) -> Outcome {
         3 if case % 4 == 0 => random.below(WHITEN_BYTES + 1),
         _ => random.below(70),
     };
-    let before = Bytes::new(&random.bytes(n), random.below(16));
+    let before = Bytes::new(&random.bytes(n), any_side(random));
     let (mut bytes, mut lent) = (before.clone(), before.clone());
-    let (mut stepped, mut given) = (Fenced::new(register), Fenced::new(register));
-    let refusal = whitening::whiten(&mut stepped.register, bytes.inside_mut());
+    let register_before = LentRegister::new(register, any_side(random));
+    let (mut stepped, mut given) = (register_before.clone(), register_before);
+    let mut after = register;
+    let refusal = whitening::whiten(&mut after, bytes.inside_mut());
+    stepped.set(after);
     let found = library.whiten(&mut given, &mut lent);
     let inputs = || format!("{register:?}, {n} bytes {}", hex(before.inside()));
     compare_lent(compare(refusal, (refusal, stepped), (found, given), inputs), "bytes", &bytes, &lent, inputs)
@@ -258,9 +264,8 @@ fn take(library: &dyn Library, case: u64, random: &mut Random) -> Outcome {
     if random.once_in(12) {
         damage_store(random, &mut bytes);
     }
-    let (store_offset, block_offset) = (random.below(16), random.below(16));
-    let before = Bytes::new(&bytes, store_offset);
-    let block_before = Bytes::new(&block, block_offset);
+    let before = Bytes::new(&bytes, any_side(random));
+    let block_before = Bytes::new(&block, any_side(random));
     let (mut taken_into, mut lent, mut block_lent) = (before.clone(), before.clone(), block_before.clone());
     let expected = store::take(taken_into.inside_mut(), &block);
     let found = library.take(&mut lent, &mut block_lent);
@@ -277,7 +282,7 @@ fn read(library: &dyn Library, case: u64, random: &mut Random) -> Outcome {
     let first = antenna_block(random, case % 64 == 0, first_damaged);
     let second = antenna_block(random, case % 64 == 1, second_damaged);
     let (meter, ordinal) = question(random, if store::records(&first).is_ok() { &first } else { &second });
-    let before = [Bytes::new(&first, random.below(16)), Bytes::new(&second, random.below(16))];
+    let before = [Bytes::new(&first, any_side(random)), Bytes::new(&second, any_side(random))];
     let [mut first_lent, mut second_lent] = before.clone();
     let expected = antennas::read(&first, &second, meter, ordinal);
     let found = library.read(&mut first_lent, &mut second_lent, meter, ordinal);

@@ -1,7 +1,7 @@
 //! The functions of the C interface, as the comparison calls them: once linked from the static library, once made of the reference
 //! (planted.rs), with a mistake in it.
 
-use crate::lent::{Bytes, Fenced};
+use crate::lent::{Bytes, LentRegister};
 use reference::answers::{Entry, Fraction, Loaded, Read, Register, Stepped, Storage, Taken, Walked, Word};
 
 pub trait Library: Sync {
@@ -14,7 +14,7 @@ pub trait Library: Sync {
     fn sheet(&self, register: Register) -> Storage;
     fn period(&self, q: u32) -> Entry;
     fn output_word(&self, p: i32, q: u32) -> Word;
-    fn whiten(&self, register: &mut Fenced, bytes: &mut Bytes) -> u32;
+    fn whiten(&self, register: &mut LentRegister, bytes: &mut Bytes) -> u32;
     fn take(&self, store: &mut Bytes, block: &mut Bytes) -> Taken;
     fn read(&self, first: &mut Bytes, second: &mut Bytes, meter: u32, ordinal: u32) -> Read;
 }
@@ -80,7 +80,7 @@ impl Library for Linked {
         unsafe { c::cj_output_word(p, q) }
     }
 
-    fn whiten(&self, register: &mut Fenced, bytes: &mut Bytes) -> u32 {
+    fn whiten(&self, register: &mut LentRegister, bytes: &mut Bytes) -> u32 {
         unsafe { c::cj_whiten(register.start(), bytes.start(), bytes.len()) }
     }
 

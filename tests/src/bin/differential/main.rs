@@ -3,39 +3,57 @@
 //!     differential [--seed N] [--rounds N] [--only FUNCTION]    compare the static library
 //!     differential --planted [--seed N]                         compare libraries with one planted mistake each: all must be found
 //!
-//! It stops at the first difference, prints the inputs that reproduce it, and ends with status 1.
+//! The inputs follow from the seed, and the seed is the same in every run; `--seed random` takes a fresh one. It stops at the first
+//! difference, prints the inputs that reproduce it, and ends with status 1; with status 3 where the library touched memory that it was
+//! not lent.
 
 mod cases;
 mod lent;
 mod library;
 mod planted;
+mod watch;
 
 use cases::{Difference, Subject, SUBJECTS};
 use library::{Library, Linked};
+use planted::{Mistake, Planted, MISTAKES, STRAYS};
 use reference::inputs::Random;
-use std::process::ExitCode;
-use std::sync::atomic::{AtomicBool, AtomicU64, Ordering};
+use std::process::{Command, ExitCode};
+use std::sync::atomic::{AtomicU64, Ordering};
 use std::sync::Mutex;
+
+const SEED: u64 = 20_261_116;
 
 struct Options {
     seed: u64,
     rounds: u64,
     only: Option<String>,
     planted: bool,
+    /// A mistake of STRAYS, by its place there: what `--planted` tries in a process of its own.
+    stray: Option<usize>,
+}
+
+fn fresh_seed() -> u64 {
+    std::time::SystemTime::now().duration_since(std::time::UNIX_EPOCH).map_or(1, |time| time.as_nanos() as u64 % 1_000_000_007)
 }
 
 fn options() -> Result<Options, String> {
-    let clock = std::time::SystemTime::now().duration_since(std::time::UNIX_EPOCH).map_or(1, |time| time.as_nanos() as u64 % 1_000_000_007);
-    let mut options = Options { seed: clock, rounds: 1, only: None, planted: false };
+    let mut options = Options { seed: SEED, rounds: 1, only: None, planted: false, stray: None };
     let mut words = std::env::args().skip(1);
     while let Some(word) = words.next() {
-        let mut number = || words.next().and_then(|text| text.parse().ok()).ok_or(format!("{word} needs a number"));
+        let mut value = || words.next().ok_or(format!("{word} needs a value"));
+        let number = |text: String| text.parse().map_err(|_| format!("{text} is no number"));
         match word.as_str() {
-            "--seed" => options.seed = number()?,
-            "--rounds" => options.rounds = number()?,
-            "--only" => options.only = Some(words.next().ok_or("--only needs a function")?),
+            "--seed" => match value()?.as_str() {
+                "random" => options.seed = fresh_seed(),
+                text => options.seed = number(text.to_string())?,
+            },
+            "--rounds" => options.rounds = number(value()?)?,
+            "--only" => options.only = Some(value()?),
             "--planted" => options.planted = true,
-            _ => return Err("usage: differential [--seed N] [--rounds N] [--only FUNCTION] | --planted [--seed N]".to_string()),
+            "--stray" => options.stray = Some(number(value()?)? as usize),
+            _ => {
+                return Err("usage: differential [--seed N|random] [--rounds N] [--only FUNCTION] | --planted [--seed N|random]".to_string())
+            }
         }
     }
     match &options.only {
@@ -50,35 +68,36 @@ fn options() -> Result<Options, String> {
 /// The numbers that an answer's refusal can be: 0 to 18.
 const REFUSALS: usize = 19;
 
-/// What the cases of one function came to.
+/// What the cases of one function came to: the first that differs, and how often each refusal was met; 0 is the answer.
 struct Tally {
-    compared: u64,
-    /// How often each refusal was met; 0 is the answer.
     met: [u64; REFUSALS],
     first: Option<(u64, Box<Difference>)>,
 }
 
-fn compare_all(library: &dyn Library, stream: usize, cases: u64, seed: u64) -> Tally {
+/// The same seed, the same tally, however many threads share the work: each case before the first that differs is compared.
+fn compare_all(library: &dyn Library, stream: usize, cases: u64, seed: u64, threads: usize) -> Tally {
     const CHUNK: u64 = 64;
     let subject = &SUBJECTS[stream];
     let next = AtomicU64::new(0);
-    let stop = AtomicBool::new(false);
-    let tally = Mutex::new(Tally { compared: 0, met: [0; REFUSALS], first: None });
+    let least = AtomicU64::new(u64::MAX);
+    let tally = Mutex::new(Tally { met: [0; REFUSALS], first: None });
     let work = || {
         let mut met = [0u64; REFUSALS];
-        let mut compared = 0;
-        while !stop.load(Ordering::Relaxed) {
+        loop {
             let from = next.fetch_add(CHUNK, Ordering::Relaxed);
-            if from >= cases {
+            if from >= cases.min(least.load(Ordering::Relaxed)) {
                 break;
             }
             for case in from..cases.min(from + CHUNK) {
+                if case > least.load(Ordering::Relaxed) {
+                    break;
+                }
+                watch::at(subject.name, seed, case);
                 let mut random = Random::new(seed, stream as u64, case);
-                compared += 1;
                 match (subject.run)(library, case, &mut random) {
                     Ok(refusal) => met[refusal as usize] += 1,
                     Err(difference) => {
-                        stop.store(true, Ordering::Relaxed);
+                        least.fetch_min(case, Ordering::Relaxed);
                         let mut tally = tally.lock().expect("no thread fails");
                         if tally.first.as_ref().map_or(true, |(least, _)| case < *least) {
                             tally.first = Some((case, difference));
@@ -89,12 +108,10 @@ fn compare_all(library: &dyn Library, stream: usize, cases: u64, seed: u64) -> T
             }
         }
         let mut tally = tally.lock().expect("no thread fails");
-        tally.compared += compared;
         for (sum, n) in tally.met.iter_mut().zip(met) {
             *sum += n;
         }
     };
-    let threads = std::thread::available_parallelism().map_or(1, |n| n.get());
     std::thread::scope(|scope| {
         for _ in 0..threads {
             scope.spawn(work);
@@ -103,8 +120,12 @@ fn compare_all(library: &dyn Library, stream: usize, cases: u64, seed: u64) -> T
     tally.into_inner().expect("no thread fails")
 }
 
-fn report(subject: &Subject, tally: &Tally) {
-    let mut line = format!("{:<15} {:>7} compared: {} answers", subject.name, tally.compared, tally.met[0]);
+fn processors() -> usize {
+    std::thread::available_parallelism().map_or(1, |n| n.get())
+}
+
+fn report(subject: &Subject, cases: u64, tally: &Tally) {
+    let mut line = format!("{:<15} {cases:>7} compared: {} answers", subject.name, tally.met[0]);
     for (refusal, times) in tally.met.iter().enumerate().skip(1).filter(|(_, times)| **times > 0) {
         line += &format!(", refusal {refusal} {times}");
     }
@@ -117,17 +138,18 @@ fn compare_library(options: &Options) -> bool {
         if options.only.as_ref().is_some_and(|only| only != subject.name) {
             continue;
         }
-        let tally = compare_all(&Linked, stream, subject.cases * options.rounds, options.seed);
-        compared += tally.compared;
-        report(subject, &tally);
+        let cases = subject.cases * options.rounds;
+        let tally = compare_all(&Linked, stream, cases, options.seed, processors());
         if let Some((case, difference)) = tally.first {
             println!("{} differs, seed {}, case {case}", subject.name, options.seed);
             println!("  {}", difference.inputs);
             println!("  expected {}", difference.expected);
             println!("  found    {}", difference.found);
-            println!("differential: {compared} compared, 1 different");
+            println!("differential: {} compared, 1 different", compared + case + 1);
             return false;
         }
+        compared += cases;
+        report(subject, cases, &tally);
         if let Some(refusal) = subject.refusals.iter().find(|&&refusal| tally.met[refusal as usize] == 0) {
             println!("{}: no case met refusal {refusal}; the inputs are too tame", subject.name);
             return false;
@@ -137,19 +159,36 @@ fn compare_library(options: &Options) -> bool {
     true
 }
 
-/// A harness that finds nothing would pass as well: each planted mistake must be found.
+fn compare_mistake(mistake: &Mistake, seed: u64, threads: usize) -> Tally {
+    let stream = SUBJECTS.iter().position(|subject| subject.name == mistake.function).expect("a function of the interface");
+    compare_all(&Planted { mistake: mistake.name }, stream, SUBJECTS[stream].cases, seed, threads)
+}
+
+/// What a process that makes this stray mistake says where a page stops it.
+fn stopped_at(stray: usize, seed: u64) -> Option<String> {
+    let own = std::env::current_exe().expect("a process knows its program");
+    let ended = Command::new(own).args(["--stray", &stray.to_string(), "--seed", &seed.to_string()]).output().expect("it can be run again");
+    let said = String::from_utf8_lossy(&ended.stdout).trim_end().to_string();
+    (ended.status.code() == Some(watch::STOPPED) && said.contains(STRAYS[stray].function)).then_some(said)
+}
+
+/// A comparison that finds nothing would pass as well: each planted mistake must be found.
 fn compare_planted(options: &Options) -> bool {
     let mut found = 0;
-    for mistake in planted::MISTAKES {
-        let stream = SUBJECTS.iter().position(|subject| subject.name == mistake.function).expect("a function of the interface");
-        let library = planted::Planted { mistake: mistake.name };
-        match compare_all(&library, stream, SUBJECTS[stream].cases, options.seed).first {
-            Some(_) => found += 1,
-            None => println!("not found: {} in {}", mistake.name, mistake.function),
-        }
+    let mut tell = |mistake: &Mistake, how: Option<String>| {
+        found += how.is_some() as usize;
+        println!("{}, {}: {}", mistake.function, mistake.name, how.unwrap_or("NOT FOUND".to_string()));
+    };
+    for mistake in MISTAKES {
+        let first = compare_mistake(mistake, options.seed, processors()).first;
+        tell(mistake, first.map(|(case, _)| format!("found at case {case}")));
     }
-    println!("planted: {} mistakes, {found} found", planted::MISTAKES.len());
-    found == planted::MISTAKES.len()
+    for (i, mistake) in STRAYS.iter().enumerate() {
+        tell(mistake, stopped_at(i, options.seed));
+    }
+    let all = MISTAKES.len() + STRAYS.len();
+    println!("planted: {all} mistakes, {found} found");
+    found == all
 }
 
 fn main() -> ExitCode {
@@ -160,6 +199,11 @@ fn main() -> ExitCode {
             return ExitCode::from(2);
         }
     };
+    watch::begin();
+    if let Some(stray) = options.stray {
+        compare_mistake(&STRAYS[stray], options.seed, 1);
+        return ExitCode::SUCCESS;
+    }
     println!("differential: seed {}", options.seed);
     let well = if options.planted { compare_planted(&options) } else { compare_library(&options) };
     if well {

@@ -1,6 +1,6 @@
 //! The reference with one mistake planted in it, to see that the comparison finds it. Many are slips that someone has made before.
 
-use crate::lent::{Bytes, Fenced};
+use crate::lent::{Bytes, LentRegister};
 use crate::library::Library;
 use reference::answers::{Entry, Fraction, Loaded, Read, Register, Stepped, Storage, Taken, Walked, Word};
 use reference::answers::{LIMIT, METERS, MOST_BITS, PLACE_BYTES, STORE_BYTES};
@@ -115,8 +115,49 @@ pub const MISTAKES: &[Mistake] = &[
     mistake("cj_read", "the second block changed"),
 ];
 
+/// Mistakes that touch a byte outside of what was lent. They change no answer, and the page beside it must find them: each is tried in a
+/// process of its own, which the page stops.
+pub const STRAYS: &[Mistake] = &[
+    mistake("cj_learn", "read before the bytes"),
+    mistake("cj_learn", "read behind the bytes"),
+    mistake("cj_learn_meter", "read before the store"),
+    mistake("cj_learn_meter", "read behind the store"),
+    mistake("cj_whiten", "read before the bytes"),
+    mistake("cj_whiten", "read behind the bytes"),
+    mistake("cj_whiten", "write before the bytes"),
+    mistake("cj_whiten", "write behind the bytes"),
+    mistake("cj_whiten", "read before the register"),
+    mistake("cj_whiten", "read behind the register"),
+    mistake("cj_take", "read before the block"),
+    mistake("cj_take", "read behind the block"),
+    mistake("cj_take", "write before the store"),
+    mistake("cj_take", "write behind the store"),
+    mistake("cj_read", "read before the first block"),
+    mistake("cj_read", "read behind the first block"),
+    mistake("cj_read", "read before the second block"),
+    mistake("cj_read", "read behind the second block"),
+];
+
 pub struct Planted {
     pub mistake: &'static str,
+}
+
+impl Planted {
+    /// Touches the byte before these `len` bytes or behind them, where the mistake is to do that to them. A write leaves the byte as it
+    /// was, so that nothing but the page can tell.
+    fn stray(&self, lent: &str, start: *mut u8, len: usize) {
+        let touch = |deed: &str, at: *mut u8| unsafe {
+            match deed {
+                "read" => drop(at.read_volatile()),
+                _ => at.write_volatile(at.read_volatile()),
+            }
+        };
+        match self.mistake.splitn(4, ' ').collect::<Vec<_>>()[..] {
+            [deed, "before", "the", what] if what == lent => touch(deed, start.wrapping_sub(1)),
+            [deed, "behind", "the", what] if what == lent => touch(deed, start.wrapping_add(len)),
+            _ => {}
+        }
+    }
 }
 
 /// Every pair of a short burst, by an order of one's own.
@@ -137,6 +178,7 @@ fn lenient_step(register: Register) -> Stepped {
 
 impl Library for Planted {
     fn learn(&self, bytes: &mut Bytes, count: u64) -> Fraction {
+        self.stray("bytes", bytes.start(), bytes.len());
         let lent = bytes.inside().to_vec();
         let right = learn(&lent, count);
         let n = count.min(4097) as usize;
@@ -172,6 +214,7 @@ impl Library for Planted {
     }
 
     fn learn_meter(&self, store: &mut Bytes, meter: u32) -> Fraction {
+        self.stray("store", store.start(), store.len());
         let lent = store.inside().to_vec();
         let right = learn_meter(&lent, meter);
         let mut mended = lent.clone();
@@ -313,32 +356,39 @@ impl Library for Planted {
         }
     }
 
-    fn whiten(&self, register: &mut Fenced, bytes: &mut Bytes) -> u32 {
-        let before = register.register;
+    fn whiten(&self, register: &mut LentRegister, bytes: &mut Bytes) -> u32 {
+        self.stray("bytes", bytes.start(), bytes.len());
+        self.stray("register", register.start().cast(), 12);
+        let before = register.get();
         let n = bytes.len();
         match self.mistake {
             "512 bytes refused" if n == 512 && is_valid(before) => return 9,
             "9 before 5" if n > 512 => return 9,
             "one step for no bytes" if n == 0 && is_valid(before) => {
-                register.register = stepped(before).1;
+                register.set(stepped(before).1);
                 return 0;
             }
             _ => {}
         }
-        let refusal = whitening::whiten(&mut register.register, bytes.inside_mut());
+        let mut after = before;
+        let refusal = whitening::whiten(&mut after, bytes.inside_mut());
         match self.mistake {
-            "register as it was" => register.register = before,
+            "register as it was" => after = before,
             "a byte behind changed" if n == 512 => {
-                let behind = bytes.behind();
-                *bytes.guard_mut(behind) ^= 1;
+                if let Some(behind) = bytes.behind() {
+                    *behind ^= 1;
+                }
             }
-            "a refused register changed" if refusal == 9 => register.register = stepped(before).1,
+            "a refused register changed" if refusal == 9 => after = stepped(before).1,
             _ => {}
         }
+        register.set(after);
         refusal
     }
 
     fn take(&self, store: &mut Bytes, block: &mut Bytes) -> Taken {
+        self.stray("store", store.start(), store.len());
+        self.stray("block", block.start(), block.len());
         let before = store.inside().to_vec();
         let given = block.inside().to_vec();
         let first_bytes =
@@ -414,8 +464,9 @@ impl Library for Planted {
             "place of the next record" if right.refusal == 17 => Taken { place: right.place + 7, ..right },
             "place beside 11" if right.refusal == 11 => Taken { place: 16_384, ..right },
             "a byte behind the store changed" if right.refusal == 0 && given.len() > 16_000 => {
-                let behind = store.behind();
-                *store.guard_mut(behind) = 0;
+                if let Some(behind) = store.behind() {
+                    *behind = 0;
+                }
                 right
             }
             "the block changed" if right.refusal == 0 => {
@@ -442,6 +493,8 @@ impl Library for Planted {
     }
 
     fn read(&self, first: &mut Bytes, second: &mut Bytes, meter: u32, ordinal: u32) -> Read {
+        self.stray("first block", first.start(), first.len());
+        self.stray("second block", second.start(), second.len());
         let (one, two) = (first.inside().to_vec(), second.inside().to_vec());
         let right = read(&one, &two, meter, ordinal);
         let both = records(&one).err().zip(records(&two).err());
