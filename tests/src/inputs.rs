@@ -393,6 +393,55 @@ pub fn full_block(random: &mut Random) -> Vec<u8> {
     block
 }
 
+/// A well-formed block of bursts, those of some meters, each cut into records of any length, in turn; and where its records begin. One
+/// burst in many has more bits than a place holds.
+pub fn block_of_bursts(random: &mut Random) -> (Vec<u8>, Vec<usize>) {
+    let meters = pick!(random, 1, 1, 2, 3, 5, 12, METERS);
+    let mut left: Vec<(usize, Vec<bool>)> = (0..meters)
+        .map(|_| {
+            let n = if random.once_in(8) { long_length(random) + pick!(random, 0, 0, 0, 600) } else { any_length(random) };
+            (random_place(random) + 1, burst(random, n))
+        })
+        .collect();
+    let (mut block, mut starts) = (Vec::new(), Vec::new());
+    while !left.is_empty() {
+        let i = random.below(left.len());
+        let (meter, bits) = &mut left[i];
+        let n = pick!(random, RECORD_BITS, RECORD_BITS, record_length(random)).min(bits.len());
+        if n == 0 || block.len() + 6 + n.div_ceil(8) > BLOCK_BYTES {
+            left.swap_remove(i);
+            continue;
+        }
+        starts.push(block.len());
+        block.extend(record_of(*meter, &bits[..n]));
+        bits.drain(..n);
+    }
+    (block, starts)
+}
+
+/// A block to list: of bursts, of records of random bits, as long as a block may be, torn, damaged, or of random bytes.
+pub fn block_to_list(random: &mut Random) -> Vec<u8> {
+    let (mut block, starts) = match random.below(12) {
+        0 => (full_block(random), vec![0, 70, 140, 70 * 200]),
+        1..=3 => good_block(random, &[MOST_BITS; METERS]),
+        4 => (random_bytes(random), vec![]),
+        _ => block_of_bursts(random),
+    };
+    match random.below(10) {
+        0..=4 => damage_block(random, &mut block, &starts),
+        5 => block.truncate(random.below(block.len() + 1)),
+        6 if random.once_in(2) => block.resize(block.len().max(BLOCK_BYTES + pick!(random, 0, 1, 2, 70)), 0x5A),
+        _ => {}
+    }
+    block
+}
+
+/// Bytes that no one made, of any number.
+fn random_bytes(random: &mut Random) -> Vec<u8> {
+    let n = pick!(random, 0, 1, 5, 6, 15, random.below(100), random.below(BLOCK_BYTES + 100));
+    random.bytes(n)
+}
+
 /// Breaks, perhaps, one rule of a block at one of its records.
 pub fn damage_block(random: &mut Random, block: &mut Vec<u8>, starts: &[usize]) {
     // an earlier damage may have cut off a header
