@@ -3,9 +3,8 @@
 //!     differential [--seed N] [--rounds N] [--only FUNCTION]    compare the static library
 //!     differential --planted [--seed N]                         compare libraries with one planted mistake each: all must be found
 //!
-//! The inputs follow from the seed, and the seed is the same in every run; `--seed random` takes a fresh one. It stops at the first
-//! difference, prints the inputs that reproduce it, and ends with status 1; with status 3 where the library touched memory that it was
-//! not lent.
+//! The inputs follow from the seed, and without `--seed` that is the same in every run. It stops at the first difference, prints the inputs
+//! that reproduce it, and ends with status 1; with status 3 where the library touched memory that it was not lent.
 
 mod cases;
 mod lent;
@@ -32,10 +31,6 @@ struct Options {
     stray: Option<usize>,
 }
 
-fn fresh_seed() -> u64 {
-    std::time::SystemTime::now().duration_since(std::time::UNIX_EPOCH).map_or(1, |time| time.as_nanos() as u64 % 1_000_000_007)
-}
-
 fn options() -> Result<Options, String> {
     let mut options = Options { seed: SEED, rounds: 1, only: None, planted: false, stray: None };
     let mut words = std::env::args().skip(1);
@@ -43,17 +38,12 @@ fn options() -> Result<Options, String> {
         let mut value = || words.next().ok_or(format!("{word} needs a value"));
         let number = |text: String| text.parse().map_err(|_| format!("{text} is no number"));
         match word.as_str() {
-            "--seed" => match value()?.as_str() {
-                "random" => options.seed = fresh_seed(),
-                text => options.seed = number(text.to_string())?,
-            },
+            "--seed" => options.seed = number(value()?)?,
             "--rounds" => options.rounds = number(value()?)?,
             "--only" => options.only = Some(value()?),
             "--planted" => options.planted = true,
             "--stray" => options.stray = Some(number(value()?)? as usize),
-            _ => {
-                return Err("usage: differential [--seed N|random] [--rounds N] [--only FUNCTION] | --planted [--seed N|random]".to_string())
-            }
+            _ => return Err("usage: differential [--seed N] [--rounds N] [--only FUNCTION] | --planted [--seed N]".to_string()),
         }
     }
     match &options.only {
