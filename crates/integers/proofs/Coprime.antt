@@ -1,8 +1,23 @@
--- Divisibility as a remainder that is 0, lowest terms, Euclid's lemma (with no Bézout: the least c ≥ 1 with q | c x), and the greatest common divisor.
+-- Divisibility as a remainder that is 0, lowest terms, Euclid's lemma (with no Bézout: the least c ≥ 1 with q | c x), and the greatest
+-- common divisor.
+--
+--   quot, quot-divides     n is d (n / d) where d divides it, and n / d divides it too
+--   mod-drop               what d divides drops out of a sum's remainder
+--   div-mul, div-trans     what divides n divides its multiples; a divisor of a divisor divides
+--   div-some               what divides a number from 1 on is from 1 on
+--   one-undivided          nothing from 2 on divides 1
+--   Lowest, lowest         two numbers as d c and d k, with c and k coprime
+--   euclid                 what divides n x and is coprime to x divides n
+--   coprime-one, -down     1 is coprime to all; what is coprime to m is coprime to the divisors of m
+--   coprime-mul, -power    products and powers of what is coprime to x are coprime to x
+--   coprime-divides        two coprime numbers that divide n: so does their product
+--   gcd-zero, -step        what recursion on the remainder shows; gcd-unique: the greatest common divisor is one number
+--   GcdParts, gcd-parts    divided by it two numbers are coprime
+--   two-cancel             factors of two cancel modulo an odd number
 use mathlib.Core.Path.{_≡_, refl, sym, ap, _∙_, subst}
 use Prim.Native.Nat.{ℕ, zero, suc, _+_, _*_, _/_, _%_, _^_, _∣_, _≤_, _<_}
 use native.Mathlib.Omega.{arith}
-use native.Mathlib.Nat.{div-add-mod, mul-add-mod-self-left, mul-assoc, mul-mod-right, mul-comm, mod-lt, one-mul, eq-of-mul-eq-mul-left, dvd-mod-iff, dvd-antisymm, dvd-iff-mod-eq-zero, mod-self, zero-mod, pos-of-dvd-of-pos, eq-one-of-dvd-one, dvd-of-mul-dvd-mul-left, mul-one, mod-zero, mod-eq-of-lt}
+use native.Mathlib.Nat.{div-add-mod, mul-add-mod-self-left, mul-assoc, mul-mod-right, mul-mod-left, mul-comm, mod-lt, one-mul, eq-of-mul-eq-mul-left, dvd-mod-iff, dvd-antisymm, dvd-iff-mod-eq-zero, mod-self, zero-mod, pos-of-dvd-of-pos, eq-one-of-dvd-one, dvd-of-mul-dvd-mul-left, mul-one, mod-zero, mod-eq-of-lt, pow-zero, pow-suc}
 use native.Mathlib.Decide.{ℕ-discrete, map-dec}
 use Rattle.integers.specs.Numbers.{Divides, Coprime, IsGcd, Least}
 use Rattle.integers.proofs.Finite.{least}
@@ -16,6 +31,24 @@ mod-drop d a b h = ap (λ n. (n + b) % d) (quot d a h) ∙ mul-add-mod-self-left
 
 pub div-mul : (d n c : ℕ) → n % d ≡ 0 → (n * c) % d ≡ 0
 div-mul d n c h = ap (λ m. (m * c) % d) (quot d n h) ∙ ap (λ m. m % d) (mul-assoc d (n / d) c) ∙ mul-mod-right d (n / d * c)
+
+pub div-trans : (a b n : ℕ) → Divides a b → Divides b n → Divides a n
+div-trans a b n h k = ap (λ m. m % a) (quot b n k) ∙ div-mul a b (n / b) h
+
+-- d e divides n where e divides n / d
+div-parts : (d e n : ℕ) → Divides d n → Divides e (n / d) → Divides (d * e) n
+div-parts d e n h k =
+    ap (λ (m : ℕ). m % (d * e)) (quot d n h ∙ ap (λ (m : ℕ). d * m) (quot e (n / d) k) ∙ sym (mul-assoc d e (n / d / e)))
+    ∙ mul-mod-right (d * e) (n / d / e)
+
+pub div-some : (d n : ℕ) → 1 ≤ n → Divides d n → 1 ≤ d
+div-some d n s h = pos-of-dvd-of-pos (dvd-iff-mod-eq-zero d .1 h) s
+
+pub quot-divides : (d n : ℕ) → Divides d n → Divides (n / d) n
+quot-divides d n h = ap (λ m. m % (n / d)) (quot d n h) ∙ mul-mod-left d (n / d)
+
+pub one-undivided : (d : ℕ) → 2 ≤ d → Divides d 1 → ⊥
+one-undivided d h e = omega (arith, mod-eq-of-lt h)
 
 -- ---- lowest terms and Euclid's lemma: the least c with q | c x divides every such n, q among them
 record Kills (q x c : ℕ) : Type 0 where
@@ -95,6 +128,27 @@ euclid q x n s co h =
     let whole : q ≡ l .c = l .q-is ∙ ap (λ m. m * l .c) one ∙ one-mul (l .c) in
     subst (λ m. n % m ≡ 0) (sym whole) (l .divides n h)
 
+-- ---- coprime numbers, their products and their divisors
+pub coprime-one : (x : ℕ) → Coprime 1 x
+coprime-one x e h k = eq-one-of-dvd-one (dvd-iff-mod-eq-zero e .1 h)
+
+pub coprime-down : (d m x : ℕ) → Divides x m → Coprime d m → Coprime d x
+coprime-down d m x h co e a b = co e a (div-trans e x m b h)
+
+pub coprime-mul : (a b x : ℕ) → 1 ≤ x → Coprime a x → Coprime b x → Coprime (a * b) x
+coprime-mul a b x s f g e h k = g e (euclid e a b (div-some e x s k) apart (ap (λ n. n % e) (mul-comm b a) ∙ h)) k
+  where
+    apart : Coprime e a
+    apart d i j = f d j (div-trans d e x i k)
+
+pub coprime-power : (a x : ℕ) → 1 ≤ x → Coprime a x → (k : ℕ) → Coprime (a ^ k) x
+coprime-power a x s f zero = subst (λ n. Coprime n x) (sym (pow-zero a)) (coprime-one x)
+coprime-power a x s f (suc k) = subst (λ n. Coprime n x) (sym (pow-suc a k)) (coprime-mul (a ^ k) a x s (coprime-power a x s f k) f)
+
+pub coprime-divides : (d e n : ℕ) → 1 ≤ e → Coprime d e → Divides d n → Divides e n → Divides (d * e) n
+coprime-divides d e n s co h k =
+    div-parts d e n h (euclid e d (n / d) s (λ x a b. co x b a) (ap (λ m. m % e) (mul-comm (n / d) d ∙ sym (quot d n h)) ∙ k))
+
 -- ---- the greatest common divisor: what recursion on the remainder shows, and that there is one
 pub gcd-zero : (a : ℕ) → IsGcd a 0 a
 gcd-zero a = record { left = mod-self a; right = zero-mod a; most = λ e p q. p }
@@ -126,15 +180,11 @@ pub gcd-parts : (a b d : ℕ) → 1 ≤ b → IsGcd a b d → GcdParts a b d
 gcd-parts a b d h g = record { some = some; a-is = quot d a (g .left); b-is = quot d b (g .right); coprime = prime }
   where
     some : 1 ≤ d
-    some = pos-of-dvd-of-pos (dvd-iff-mod-eq-zero d .1 (g .right)) h
-
-    -- d e divides n where e divides n / d
-    whole : (n e : ℕ) → Divides d n → Divides e (n / d) → Divides (d * e) n
-    whole n e k l = ap (λ (m : ℕ). m % (d * e)) (quot d n k ∙ ap (λ (m : ℕ). d * m) (quot e (n / d) l) ∙ sym (mul-assoc d e (n / d / e))) ∙ mul-mod-right (d * e) (n / d / e)
+    some = div-some d b h (g .right)
 
     prime : Coprime (b / d) (a / d)
     prime e k l = eq-one-of-dvd-one (dvd-of-mul-dvd-mul-left {k = d} e {n = 1} some
-        (subst (λ (n : ℕ). d * e ∣ n) (sym (mul-one d)) (dvd-iff-mod-eq-zero (d * e) .1 (g .most (d * e) (whole a e (g .left) l) (whole b e (g .right) k)))))
+        (subst (λ (n : ℕ). d * e ∣ n) (sym (mul-one d)) (dvd-iff-mod-eq-zero (d * e) .1 (g .most (d * e) (div-parts d e a (g .left) l) (div-parts d e b (g .right) k)))))
 
 -- ---- two is coprime to an odd q, so that factors of two cancel
 two-coprime : (q : ℕ) → q % 2 ≡ 1 → Coprime q 2

@@ -9,3 +9,5 @@ pub mod Log2
 pub mod Finite
 pub mod Coprime
 pub mod Modulo
+pub mod Primes
+pub mod Fermat

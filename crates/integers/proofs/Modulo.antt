@@ -2,7 +2,7 @@
 use mathlib.Core.Path.{_≡_, sym, ap, ap₂, _∙_}
 use Prim.Native.Nat.{ℕ, zero, suc, _+_, _-_, _*_, _/_, _%_, _^_, _≤_, _<_}
 use native.Mathlib.Omega.{arith}
-use native.Mathlib.Nat.{div-add-mod', mod-eq-of-lt, mul-assoc, mul-comm, mul-one, add-mul-mod-self-left, pow-suc, mul-le-mul-right}
+use native.Mathlib.Nat.{div-add-mod', mod-eq-of-lt, zero-mod, mul-assoc, mul-comm, mul-one, add-mul-mod-self-left, pow-suc, mul-le-mul-right}
 use lib.Pow.{pow-pos, pow-lt}
 
 -- equal up to multiples of W
@@ -24,6 +24,11 @@ pub mod-down : (L c x : ℕ) → x % (L * c) % L ≡ x % L
 mod-down L c x =
     let e = div-add-mod' x (L * c) in
     cong-of L (x % (L * c)) x (c * (x / (L * c))) 0 (omega arith)
+
+-- where F is (m + 1) F, m F is 0
+pub cong-less : (W m F : ℕ) → (m + 1) * F % W ≡ F % W → m * F % W ≡ 0
+cong-less W m F h =
+    cong-of W (m * F) 0 (F / W) ((m + 1) * F / W) (omega (arith, div-add-mod' F W, div-add-mod' ((m + 1) * F) W)) ∙ zero-mod W
 
 -- where q has the inverse v modulo W, u q + W a tells u
 pub key-of : (W q v u P a b : ℕ) → u < W → q * v % W ≡ 1 % W → P + W * a ≡ u * q + W * b → P % W * v % W ≡ u

@@ -1,5 +1,6 @@
 -- What the answer of a test tells.
 --
+--   decides-by       a test decides P where P follows from true, and the contrary from false
 --   decides-unique   two answers to one question are equal
 --   decides-le       the test a <= b says whether a is at most b
 --   decides-divides  the test n % d == 0 says whether d divides n
@@ -19,7 +20,7 @@ decides-unique P true false h k = absurd (k h)
 decides-unique P false true h k = absurd (h k)
 decides-unique P false false h k = refl
 
-decides-by : {P : Type 0} (t : Bool) → (t ≡ true → P) → (t ≡ false → P → ⊥) → Decides P t
+pub decides-by : {P : Type 0} (t : Bool) → (t ≡ true → P) → (t ≡ false → P → ⊥) → Decides P t
 decides-by true f g = f refl
 decides-by false f g = g refl
 
