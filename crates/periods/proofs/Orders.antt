@@ -1,39 +1,47 @@
--- The order of two modulo an odd q: there is one, it is at most q - 1 (1 for q = 1), and it divides each exponent t with 2^t = 1.
+-- The order of two modulo an odd q.
+--
+--   power-one-iff, order-divides   the rule in the document's words: 2^t - 1 is divisible by q
+--   power-drop, power-multiple     an exponent with 2^t = 1 drops out of a sum, and so do its multiples
+--   order-multiple                 2^t = 1 exactly where the order divides t
+--   order-exists, order-most       every odd q has its order, at most q - 1 (1 for q = 1)
+--   Stepping, stepping-start, -more, -most, -end   the powers one by one
 use mathlib.Core.Path.{_≡_, refl, sym, ap, _∙_}
 use mathlib.Core.Logic.{inl, inr, _↔_}
 use Prim.Native.Nat.{ℕ, zero, suc, _+_, _-_, _*_, _/_, _%_, _^_, _≤_, _<_, max}
 use native.Mathlib.Omega.{arith}
-use native.Mathlib.Nat.{mod-one, mod-eq-of-lt, mod-lt, zero-mod, one-mul, mul-zero, mul-suc, mul-mod-right, div-add-mod, le-trans}
+use native.Mathlib.Nat.{mod-eq-of-lt, mod-lt, one-mul, mul-one, mul-zero, mul-suc, div-add-mod, le-trans}
 use native.Mathlib.Decide.{ℕ-discrete, map-dec}
 use lib.Pow.{pow-add, pow-pos}
 use Rattle.integers.specs.Numbers.{Least}
 use Rattle.integers.proofs.Finite.{least, le-or-gt, Twice, pigeon}
 use Rattle.integers.proofs.Coprime.{quot, mod-drop, two-cancel}
-use Rattle.integers.proofs.Modulo.{cong-of, mul-mod-l}
+use Rattle.integers.proofs.Modulo.{cong-less, mul-mod-l}
 use Rattle.periods.specs.Orders.{UnitPower, Order}
 
 -- ---- the rule in the document's words: 2^t - 1 divisible by q
-pub power-one-iff : (q t : ℕ) → 1 ≤ q → (2 ^ t % q ≡ 1 % q) ↔ ((2 ^ t - 1) % q ≡ 0)
-power-one-iff q t s = ((λ h. elim (le-or-gt q 1) [ inl l ↦ small (omega arith) | inr l ↦ big l h ]), (λ h. ap (λ n. n % q) whole ∙ mod-drop q (2 ^ t - 1) 1 h))
+pub power-one-iff : (q t : ℕ) → (2 ^ t % q ≡ 1 % q) ↔ ((2 ^ t - 1) % q ≡ 0)
+power-one-iff q t = (
+  (λ h. ap (λ n. n % q) (sym (mul-one (2 ^ t - 1)))
+      ∙ cong-less q (2 ^ t - 1) 1 (ap (λ n. n % q) (mul-one (2 ^ t - 1 + 1) ∙ sym whole) ∙ h)),
+  (λ h. ap (λ n. n % q) whole ∙ mod-drop q (2 ^ t - 1) 1 h),
+)
   where
     whole : 2 ^ t ≡ 2 ^ t - 1 + 1
     whole = omega (arith, pow-pos t)
 
-    small : q ≡ 1 → (2 ^ t - 1) % q ≡ 0
-    small e = ap (λ n. (2 ^ t - 1) % n) e ∙ mod-one (2 ^ t - 1)
-
-    big : 1 < q → 2 ^ t % q ≡ 1 % q → (2 ^ t - 1) % q ≡ 0
-    big l h =
-        let e : 2 ^ t - 1 ≡ q * (2 ^ t / q) = omega (arith, div-add-mod (2 ^ t) q, mod-eq-of-lt l) in
-        ap (λ n. n % q) e ∙ mul-mod-right q (2 ^ t / q)
-
 abbrev pub Divisible : ℕ → ℕ → Type 0
 Divisible q t = (1 ≤ t) × ((2 ^ t - 1) % q ≡ 0)
 
-pub order-divides : (q T : ℕ) → 1 ≤ q → Order q T ↔ Least (Divisible q) T
-order-divides q T s = (
-  (λ r. record { holds = (r .holds .some, power-one-iff q T s .0 (r .holds .one)); first = λ t h. r .first t (record { some = h .0; one = power-one-iff q t s .1 (h .1) }) }),
-  (λ r. record { holds = record { some = r .holds .0; one = power-one-iff q T s .1 (r .holds .1) }; first = λ t h. r .first t (h .some, power-one-iff q t s .0 (h .one)) }),
+pub order-divides : (q T : ℕ) → Order q T ↔ Least (Divisible q) T
+order-divides q T = (
+  (λ r. record {
+    holds = (r .holds .some, power-one-iff q T .0 (r .holds .one));
+    first = λ t h. r .first t (record { some = h .0; one = power-one-iff q t .1 (h .1) });
+  }),
+  (λ r. record {
+    holds = record { some = r .holds .0; one = power-one-iff q T .1 (r .holds .1) };
+    first = λ t h. r .first t (h .some, power-one-iff q t .0 (h .one));
+  }),
 )
 
 -- ---- exponents with 2^t = 1
@@ -70,15 +78,12 @@ power-some q i o l = elim (ℕ-discrete (2 ^ i % q) 0) [
 
 power-again : (q i k : ℕ) → q % 2 ≡ 1 → 2 ^ i % q ≡ 2 ^ (k + i) % q → 2 ^ k % q ≡ 1 % q
 power-again q i k o h =
-    power-one-iff q k (omega arith) .1
+    power-one-iff q k .1
     (two-cancel q i (2 ^ k - 1) o
-    (cong-of q ((2 ^ k - 1) * 2 ^ i) 0 (2 ^ i / q) (2 ^ (k + i) / q)
-    (alg (2 ^ k - 1) (2 ^ k) (2 ^ i) (2 ^ (k + i)) (q * (2 ^ i / q)) (q * (2 ^ (k + i) / q)) (2 ^ i % q) (omega (arith, pow-pos k)) (pow-add 2 k i)
-    (sym (div-add-mod (2 ^ i) q)) (sym (div-add-mod (2 ^ (k + i)) q) ∙ ap (λ n. q * (2 ^ (k + i) / q) + n) (sym h)))
-    ∙ zero-mod q))
+    (cong-less q (2 ^ k - 1) (2 ^ i) (ap (λ n. n * 2 ^ i % q) whole ∙ ap (λ n. n % q) (sym (pow-add 2 k i)) ∙ sym h)))
   where
-    alg : (m K P R a b r : ℕ) → K ≡ m + 1 → R ≡ K * P → P ≡ a + r → R ≡ b + r → m * P + a ≡ 0 + b
-    alg m K P R a b r e f g h = omega (arith, ap (λ (n : ℕ). n * P) e)
+    whole : 2 ^ k - 1 + 1 ≡ 2 ^ k
+    whole = omega (arith, pow-pos k)
 
 -- ---- every odd q has its order, at most q - 1 (1 for q = 1): q - 1 remainders, none of them 0
 record Within (q N : ℕ) : Type 0 where

@@ -196,8 +196,8 @@ lowest-iff {p} {q} {p'} {q'} n s w = (there, back)
 pub round-iff : (q l t : ℕ) (p : ℤ) {p' : ℤ} {q' : ℕ} → q % 2 ≡ 1 → Lowest p q p' q' → dist q (iterNum q l p) ≡ 0
     → (iterNum q (l + t) p ≡ iterNum q l p) ↔ (2 ^ t % q' ≡ 1 % q')
 round-iff q l t p {p'} {q'} o w i = (
-  (λ h. power-one-iff q' t (w .some) .1 (lowest-iff (2 ^ t - 1) some w .0 (shift-iff q (2 ^ t - 1) l p o .1 (back-iff q t r o i .0 (sym (iter-add q l t p) ∙ h))))),
-  (λ h. iter-add q l t p ∙ back-iff q t r o i .1 (shift-iff q (2 ^ t - 1) l p o .0 (lowest-iff (2 ^ t - 1) some w .1 (power-one-iff q' t (w .some) .0 h)))),
+  (λ h. power-one-iff q' t .1 (lowest-iff (2 ^ t - 1) some w .0 (shift-iff q (2 ^ t - 1) l p o .1 (back-iff q t r o i .0 (sym (iter-add q l t p) ∙ h))))),
+  (λ h. iter-add q l t p ∙ back-iff q t r o i .1 (shift-iff q (2 ^ t - 1) l p o .0 (lowest-iff (2 ^ t - 1) some w .1 (power-one-iff q' t .0 h)))),
 )
   where
     r : ℤ
