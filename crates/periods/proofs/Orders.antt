@@ -4,7 +4,6 @@
 --   power-drop, power-multiple     an exponent with 2^t = 1 drops out of a sum, and so do its multiples
 --   order-multiple                 2^t = 1 exactly where the order divides t
 --   order-exists, order-most       every odd q has its order, at most q - 1 (1 for q = 1)
---   Stepping, stepping-start, -more, -most, -end   the powers one by one
 use mathlib.Core.Path.{_≡_, refl, sym, ap, _∙_}
 use mathlib.Core.Logic.{inl, inr, _↔_}
 use Prim.Native.Nat.{ℕ, zero, suc, _+_, _-_, _*_, _/_, _%_, _^_, _≤_, _<_, max}
@@ -129,34 +128,3 @@ order-exists q o = let w = within q o in least (UnitPower q) (dec-power q) (w .a
 
 pub order-most : (q T : ℕ) → q % 2 ≡ 1 → Order q T → T ≤ max 1 (q - 1)
 order-most q T o r = let w = within q o in le-trans (r .first (w .after) (w .power)) (w .most)
-
--- ---- power by power: x is 2^t mod c, and no power before it is 1
-pub record Stepping (c t x : ℕ) : Type 0 where
-  pub odd : c % 2 ≡ 1
-  pub some : 1 ≤ t
-  pub power : x ≡ 2 ^ t % c
-  pub first : (k : ℕ) → UnitPower c k → t ≤ k
-
-pub stepping-start : (c : ℕ) → c % 2 ≡ 1 → Stepping c 1 (2 % c)
-stepping-start c o = record { odd = o; some = omega arith; power = refl; first = λ k u. u .some }
-
-not-yet : {c t x : ℕ} → Stepping c t x → (x ≡ 1 % c → ⊥) → (k : ℕ) → UnitPower c k → t < k
-not-yet {c} {t} {x} w n k u = elim (ℕ-discrete t k) [
-  | yes e ↦ absurd (n (w .power ∙ ap (λ m. 2 ^ m % c) e ∙ u .one))
-  | no e ↦ omega (arith, w .first k u)
-]
-
-pub stepping-more : (c t x : ℕ) → Stepping c t x → (x ≡ 1 % c → ⊥) → Stepping c (t + 1) (x * 2 % c)
-stepping-more c t x w n = record {
-  odd = w .odd;
-  some = omega arith;
-  power = ap (λ m. m * 2 % c) (w .power) ∙ mul-mod-l c (2 ^ t) 2 ∙ ap (λ m. m % c) (sym (pow-add 2 t 1));
-  first = λ k u. omega (arith, not-yet w n k u);
-}
-
-pub stepping-most : (c t x : ℕ) → Stepping c t x → (x ≡ 1 % c → ⊥) → t < c
-stepping-most c t x w n =
-    let r = order-exists c (w .odd) in omega (arith, not-yet w n (r .0) (r .1 .holds), order-most c (r .0) (w .odd) (r .1), w .odd)
-
-pub stepping-end : (c t x : ℕ) → Stepping c t x → x ≡ 1 % c → Order c t
-stepping-end c t x w e = record { holds = record { some = w .some; one = sym (w .power) ∙ e }; first = w .first }

@@ -1,8 +1,13 @@
 -- A power by squaring, and the sizes of trial division.
+--
+--   power-step   2^e mod c, one digit of e more
+--   root         twice l is at most m where l is at most m / l
+--   part-le      n / l, taken no more than l times, is at most n
+--   shift-out    e is below 2^i where nothing is left of it after a shift by i
 use mathlib.Core.Path.{_≡_, refl, sym, ap, _∙_}
 use Prim.Native.Nat.{ℕ, zero, suc, _+_, _-_, _*_, _/_, _%_, _^_, _≤_, _<_}
 use native.Mathlib.Omega.{arith}
-use native.Mathlib.Nat.{le-div-iff-mul-le, div-mul-le-self, div-lt-self, le-trans, mul-le-mul-left, div-lt-iff-lt-mul}
+use native.Mathlib.Nat.{le-div-iff-mul-le, div-mul-le-self, le-trans, mul-le-mul-left, div-lt-iff-lt-mul}
 use lib.Pow.{pow-add, pow-pos, shr-shr}
 use Rattle.integers.proofs.Modulo.{mul-mod-l}
 
@@ -21,7 +26,6 @@ bit-pow zero h = refl
 bit-pow (suc zero) h = refl
 bit-pow (suc (suc b)) h = let f : ⊥ = omega arith in absurd f
 
--- one more digit of the exponent
 pub power-step : (e i c r : ℕ) → r ≡ 2 ^ (e / 2 ^ (i + 1)) % c → (r * r * (1 + e / 2 ^ i % 2)) % c ≡ 2 ^ (e / 2 ^ i) % c
 power-step e i c r h =
     let A = e / 2 ^ (i + 1) in
@@ -39,14 +43,8 @@ root l m h k =
     let a : l * l ≤ m = le-div-iff-mul-le {k = l} {x = l} {y = m} (omega arith) .0 k in
     le-trans (mul-le-mul-left l h) a
 
-pub shrinks : (l m : ℕ) → 2 ≤ l → l ≤ m / l → m / l - l < m - l
-shrinks l m h k =
-    let a = root l m h k in
-    let b : m / l < m = div-lt-self {n = m} {k = l} (omega arith) (omega arith) in
-    omega arith
-
-pub tot-le : (n l : ℕ) → n / l * (l - 1) ≤ n
-tot-le n l = le-trans (mul-le-mul-left (n / l) (omega arith)) (div-mul-le-self n l)
+pub part-le : (n l k : ℕ) → k ≤ l → n / l * k ≤ n
+part-le n l k h = le-trans (mul-le-mul-left (n / l) h) (div-mul-le-self n l)
 
 pub shift-out : (e i : ℕ) → e / 2 ^ i ≡ 0 → e < 2 ^ i
 shift-out e i h = let a : e < 1 * 2 ^ i = div-lt-iff-lt-mul {k = 2 ^ i} {x = e} {y = 1} (pow-pos i) .0 (omega arith) in omega arith

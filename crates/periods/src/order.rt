@@ -1,9 +1,10 @@
-// The order of two modulo an odd number, found fast: a multiple of it is guessed and tried, then each prime is divided out of it
-// as often as may be. What is left has a certificate, so that nothing rests on how the multiple was guessed.
+// The order of two modulo an odd number, found fast: Euler's function is a multiple of it, and each prime is divided out of that
+// as often as may be.
 ghost use mathlib.Core.Path.{_≡_};
-ghost use Prim.Native.Nat.{_%_, _^_, _≤_, _<_};
-ghost use Rattle.periods.specs.Orders.{Order};
-ghost use Rattle.periods.specs.Finding.{Lowered};
+ghost use Prim.Native.Nat.{_-_, _%_, _^_, _≤_, _<_};
+ghost use Rattle.integers.specs.Numbers.{Decides};
+ghost use Rattle.periods.specs.Orders.{UnitPower, Order};
+ghost use Rattle.periods.specs.Finding.{Without, Lowered};
 
 // A number of bits that e fits.
 fn width(e: u32) -> u32
@@ -34,9 +35,10 @@ fn power_mod(e: u32, c: u32) -> u32
     r as u32
 }
 
-// Is 2^(m - 1) = 1 mod m, as for a prime m?
+// Is 2^(m - 1) = 1 mod m, as for each odd prime m?
 fn like_prime(m: u32) -> bool
     requires { ⌜ m < 2 ^ 30 ⌝ }
+    ensures { λ r. ⌜ Decides (UnitPower m (m - 1)) r ⌝ }
 {
     if m < 2 {
         false
@@ -45,30 +47,40 @@ fn like_prime(m: u32) -> bool
     }
 }
 
-// A guess: Euler's function of an odd c, with each m that is like a prime taken for one. Nothing rests on it.
-fn totient(c: u32) -> u32
-    requires { ⌜ c < 2 ^ 30 ⌝ }
+// m with l divided out of it as often as may be.
+fn without(m: u32, l: u32) -> u32
+    requires { ⌜ (2 ≤ l) × (1 ≤ m) ⌝ }
+    ensures { λ r. ⌜ Without m l r ⌝ }
 {
+    let mut r = m;
+    while r % l == 0 {
+        r = r / l;
+    }
+    r
+}
+
+// A multiple of the order: Euler's function of c, by trial division, but that what is left counts as a prime as soon as it is
+// like one, which spares the way to its root. A prime is like one, so that nothing is left where the loop ends.
+fn totient(c: u32) -> u32
+    requires { ⌜ (c % 2 ≡ 1) × (c < 2 ^ 30) ⌝ }
+    ensures { λ r. ⌜ UnitPower c r ⌝ }
+{
+    if like_prime(c) {
+        return c - 1;
+    }
     let mut m = c;
     let mut n = c;
     let mut l: u32 = 3;
-    let mut known = like_prime(c);
     while l <= m / l {
-        if known {
-            return n / m * (m - 1);
-        }
         if m % l == 0 {
-            m = m / l;
-            if m % l != 0 {
-                n = n / l * (l - 1);
-                known = like_prime(m);
+            n = n / l * (l - 1);
+            m = without(m, l);
+            if like_prime(m) {
+                return n / m * (m - 1);
             }
         } else {
             l += 2;
         }
-    }
-    if 1 < m {
-        n = n / m * (m - 1);
     }
     n
 }
@@ -91,7 +103,7 @@ fn lowered(c: u32, t: u32, l: u32) -> u32
 
 // The order of two mod c, from an n with 2^n = 1: each prime factor of n, by trial division, is divided out as often as may be.
 fn from_multiple(c: u32, n: u32) -> u32
-    requires { ⌜ (c % 2 ≡ 1) × (c < 2 ^ 30) × (1 ≤ n) × (2 ^ n % c ≡ 1 % c) ⌝ }
+    requires { ⌜ (c % 2 ≡ 1) × (c < 2 ^ 30) × UnitPower c n ⌝ }
     ensures { λ r. ⌜ Order c r ⌝ }
 {
     let mut t = n;
@@ -99,10 +111,8 @@ fn from_multiple(c: u32, n: u32) -> u32
     let mut l: u32 = 2;
     while l <= m / l {
         if m % l == 0 {
-            m = m / l;
-            if m % l != 0 {
-                t = lowered(c, t, l);
-            }
+            t = lowered(c, t, l);
+            m = without(m, l);
         } else {
             l += 1 + l % 2;
         }
@@ -110,32 +120,11 @@ fn from_multiple(c: u32, n: u32) -> u32
     if 1 < m { lowered(c, t, m) } else { t }
 }
 
-// The order of two mod c, power by power: slow, for where the guess fails.
-fn by_steps(c: u32) -> u32
-    requires { ⌜ (c % 2 ≡ 1) × (c < 2 ^ 30) ⌝ }
-    ensures { λ r. ⌜ Order c r ⌝ }
-{
-    let one = 1 % c;
-    let mut t: u32 = 1;
-    let mut x = 2 % c;
-    while x != one {
-        x = x * 2 % c;
-        t += 1;
-    }
-    t
-}
-
-// The order of two mod c. Not an entry point: its callers in other crates show that c is odd and below 2^30.
+// The order of two mod c. Not an entry point: its callers in other crates show that c is odd and below 2^30. At most 16,391 turns
+// of trial division for c, up to its root, and 16,393 for the multiple; then 47 powers or fewer, of at most 30 squarings each.
 pub fn of_two(c: u32) -> u32
     requires { ⌜ (c % 2 ≡ 1) × (c < 2 ^ 30) ⌝ }
     ensures { λ r. ⌜ Order c r ⌝ }
 {
-    let n = totient(c);
-    if n == 0 {
-        return by_steps(c);
-    }
-    if power_mod(n, c) != 1 % c {
-        return by_steps(c);
-    }
-    from_multiple(c, n)
+    from_multiple(c, totient(c))
 }
