@@ -1,4 +1,5 @@
 // The period table, and behind it the order of two. The contracts cite Orders and Answers of specs/.
+ghost use mathlib.Core.Path.{_≡_};
 ghost use Rattle.periods.specs.Answers.{Periods, numberOf, periodOf};
 
 pub mod order;
@@ -13,6 +14,13 @@ pub enum Lookup {
     Outside,
 }
 
+// A table entry as a number of the answer's width.
+fn wide(x: u16) -> u32
+    ensures { λ r. ⌜ r ≡ x ⌝ }
+{
+    x as u32
+}
+
 // The table's entry for q: the least T >= 1 with 2^T - 1 divisible by q.
 pub fn period(q: u32) -> Lookup
     ensures { λ r. ⌜ Periods q (numberOf r) (periodOf r) ⌝ }
@@ -24,5 +32,5 @@ pub fn period(q: u32) -> Lookup
         return Lookup::Outside;
     }
     let i = (q / 2) as usize;
-    Lookup::Period(table::PERIODS[i])
+    Lookup::Period(wide(table::PERIODS[i]))
 }

@@ -1,6 +1,6 @@
 // The least T >= 1 with 2^T - 1 divisible by q, for every odd q from 1 to 1,023: entry i is that of q = 2 i + 1.
-// The proof of `period` computes the rule over all 512.
-pub const PERIODS: [u32; 512] = [
+// The proof of `period` computes the rule over all 512. Entries of 16 bits, because a lookup copies the whole table to the stack.
+pub const PERIODS: [u16; 512] = [
     1,
     2,
     4,
