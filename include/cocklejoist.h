@@ -40,10 +40,10 @@ extern "C" {
 #endif
 
 /*
- * The version of this interface: 1.0.0, a byte to each part. The first part is raised where something that was declared has changed, the second
- * where something was added, the third where neither was.
+ * The version of this interface: 0.1.0, a byte to each part. While the first part is 0 the interface still grows: the second part is raised where
+ * something that was declared has changed, or means something else; the third where something was added.
  */
-#define CJ_VERSION 0x010000
+#define CJ_VERSION 0x000100
 
 #define CJ_LIMIT 1073741823         /* 2^30 - 1: the largest q, and the largest p of either sign */
 #define CJ_MOST_MEMORY 1073741824   /* 2^30: the largest memory of a valid register, of either sign */
@@ -156,7 +156,7 @@ typedef struct cj_record {
 
 /*
  * The version of the library that is linked: the CJ_VERSION of its own header. A program that was compiled with this header may call a library
- * whose first part is the same and whose version is not smaller: cj_version() >> 16 == CJ_VERSION >> 16 && cj_version() >= CJ_VERSION.
+ * whose first two parts are the same and whose version is not smaller: cj_version() >> 8 == CJ_VERSION >> 8 && cj_version() >= CJ_VERSION.
  *
  *     assert(cj_version() == CJ_VERSION);
  */

@@ -23,8 +23,8 @@ use flat::Walked;
 use flat::Word;
 use registers::Register;
 
-// 1.0.0, a byte to each part.
-const VERSION: u32 = 0x010000;
+// 0.1.0, a byte to each part.
+const VERSION: u32 = 0x000100;
 
 // The version of this interface, so that a program can tell whether it was compiled with the header of the library that it is linked with.
 #[no_mangle]
