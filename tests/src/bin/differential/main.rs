@@ -12,7 +12,7 @@ mod library;
 mod planted;
 mod watch;
 
-use cases::{Difference, Subject, SUBJECTS};
+use cases::{Difference, Outcome, Subject, SUBJECTS};
 use library::{Library, Linked};
 use planted::{Mistake, Planted, MISTAKES, STRAYS};
 use reference::inputs::Random;
@@ -64,50 +64,70 @@ struct Tally {
     first: Option<(u64, Box<Difference>)>,
 }
 
-/// The same seed, the same tally, however many threads share the work: each case before the first that differs is compared.
-fn compare_all(library: &dyn Library, stream: usize, cases: u64, seed: u64, threads: usize) -> Tally {
-    const CHUNK: u64 = 64;
-    let subject = &SUBJECTS[stream];
-    let next = AtomicU64::new(0);
-    let least = AtomicU64::new(u64::MAX);
-    let tally = Mutex::new(Tally { met: [0; REFUSALS], first: None });
-    let work = || {
+/// The comparison of one function, shared among threads.
+struct Work<'a> {
+    library: &'a dyn Library,
+    stream: usize,
+    cases: u64,
+    seed: u64,
+    /// The first case that no thread has taken yet.
+    next: AtomicU64,
+    /// The least case that was found to differ: those behind it need not be compared.
+    least: AtomicU64,
+    tally: Mutex<Tally>,
+}
+
+impl Work<'_> {
+    /// Takes a few cases at a time, until none is left.
+    fn share(&self) {
+        const CHUNK: u64 = 64;
         let mut met = [0u64; REFUSALS];
         loop {
-            let from = next.fetch_add(CHUNK, Ordering::Relaxed);
-            if from >= cases.min(least.load(Ordering::Relaxed)) {
+            let from = self.next.fetch_add(CHUNK, Ordering::Relaxed);
+            if from >= self.cases.min(self.least.load(Ordering::Relaxed)) {
                 break;
             }
-            for case in from..cases.min(from + CHUNK) {
-                if case > least.load(Ordering::Relaxed) {
+            for case in from..self.cases.min(from + CHUNK) {
+                if case > self.least.load(Ordering::Relaxed) {
                     break;
                 }
-                watch::at(subject.name, seed, case);
-                let mut random = Random::new(seed, stream as u64, case);
-                match (subject.run)(library, case, &mut random) {
+                match self.compare(case) {
                     Ok(refusal) => met[refusal as usize] += 1,
-                    Err(difference) => {
-                        least.fetch_min(case, Ordering::Relaxed);
-                        let mut tally = tally.lock().expect("no thread fails");
-                        if tally.first.as_ref().map_or(true, |(least, _)| case < *least) {
-                            tally.first = Some((case, difference));
-                        }
-                        break;
-                    }
+                    Err(difference) => self.note(case, difference),
                 }
             }
         }
-        let mut tally = tally.lock().expect("no thread fails");
+        let mut tally = self.tally.lock().expect("no thread fails");
         for (sum, n) in tally.met.iter_mut().zip(met) {
             *sum += n;
         }
-    };
+    }
+
+    fn compare(&self, case: u64) -> Outcome {
+        let subject = &SUBJECTS[self.stream];
+        watch::at(subject.name, self.seed, case);
+        (subject.run)(self.library, case, &mut Random::new(self.seed, self.stream as u64, case))
+    }
+
+    fn note(&self, case: u64, difference: Box<Difference>) {
+        self.least.fetch_min(case, Ordering::Relaxed);
+        let mut tally = self.tally.lock().expect("no thread fails");
+        if tally.first.as_ref().map_or(true, |(least, _)| case < *least) {
+            tally.first = Some((case, difference));
+        }
+    }
+}
+
+/// The same seed, the same first difference, however many threads share the work: every case before it is compared.
+fn compare_all(library: &dyn Library, stream: usize, cases: u64, seed: u64, threads: usize) -> Tally {
+    let tally = Mutex::new(Tally { met: [0; REFUSALS], first: None });
+    let work = Work { library, stream, cases, seed, next: AtomicU64::new(0), least: AtomicU64::new(u64::MAX), tally };
     std::thread::scope(|scope| {
         for _ in 0..threads {
-            scope.spawn(work);
+            scope.spawn(|| work.share());
         }
     });
-    tally.into_inner().expect("no thread fails")
+    work.tally.into_inner().expect("no thread fails")
 }
 
 fn processors() -> usize {
