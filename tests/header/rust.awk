@@ -1,5 +1,5 @@
-# What the tests in Rust declare of the library, as C declares it: each #[repr(C)] struct, and each function of an extern "C" block, one to a line. A struct with
-# another field than a plain one is the tests' own, and is left out; were it the library's, it would be missed.
+# What the tests in Rust declare of the library, as C declares it: each #[repr(C)] struct, and each function cj_.. of an extern "C" block, one to a line. A struct with
+# another field than a plain one is the tests' own, and is left out, as is a function with another name, which is the system's; were it the library's, it would be missed.
 #
 #     awk -f types.awk -f rust.awk FILE.rs ..
 function c_parameter(field,    name, type) {
@@ -27,6 +27,7 @@ struct { plain = 0; next }
 
 /^extern "C" \{$/ { block = 1; next }
 block && /^}$/ { block = 0; next }
+block && !/^(pub )?fn cj_/ { next }
 block {
     sub(/^pub /, "")
     sub(/;$/, "")
@@ -36,4 +37,4 @@ block {
     print_function(list)
     next
 }
-/repr\(C\)|extern "C"/ && !/^\/\// { fail("this line stands where it is not read: " $0) }
+/repr\(C\)|extern "C"|fn cj_/ && !/^\/\/|extern "C" fn/ { fail("this line stands where it is not read: " $0) }
