@@ -105,8 +105,8 @@ static void make_inputs(void)
 
 /* ---- the calls, one to a function, so that the counting tool tells them apart ---- */
 
-/* the largest prime below the limit; the largest square of a prime, whose order of two takes the longest to find, as far from a loop as can be */
-static const cj_register prime = {1073741789, 123456789, 5}, square = {1072497001, 0, -CJ_MOST_MEMORY};
+/* the largest prime below the limit; the square of a prime, 32,603, whose order of two takes the longest to find, as far from a loop as can be */
+static const cj_register prime = {1073741789, 123456789, 5}, square = {1062955609, 0, -CJ_MOST_MEMORY};
 
 static uint8_t to[CJ_STORE_BYTES];
 
