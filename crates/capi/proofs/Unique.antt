@@ -13,8 +13,10 @@ use Rattle.learning.proofs.Laws.{learns-unique}
 use Rattle.periods.specs.Answers.{Periods}
 use Rattle.periods.proofs.Answers.{periods-unique}
 use Rattle.registers.specs.declared.Register.{Register}
-use Rattle.registers.specs.Answers.{Steps, Loads, ReadsBack, Sheets}
-use Rattle.registers.proofs.Answers.{steps-same, loads-same, reads-same, sheets-same}
+use Rattle.registers.specs.Answers.{Steps, Loads, ReadsBack}
+use Rattle.storage.specs.Storage.{Sheets}
+use Rattle.registers.proofs.Answers.{steps-same, loads-same, reads-same}
+use Rattle.storage.proofs.Answers.{sheets-same}
 use Rattle.by_meter.specs.ByMeter.{LearnsMeter}
 use Rattle.by_meter.proofs.Answers.{meter-unique}
 use Rattle.walking.specs.Walks.{Walks}

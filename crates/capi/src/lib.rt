@@ -6,7 +6,8 @@ ghost use mathlib.Core.Path.{_≡_};
 ghost use Rattle.fractions.specs.Answers.{Outputs};
 ghost use Rattle.learning.specs.Learning.{Learns};
 ghost use Rattle.periods.specs.Answers.{Periods};
-ghost use Rattle.registers.specs.Answers.{Steps, Loads, ReadsBack, Sheets};
+ghost use Rattle.registers.specs.Answers.{Steps, Loads, ReadsBack};
+ghost use Rattle.storage.specs.Storage.{Sheets};
 ghost use Rattle.by_meter.specs.ByMeter.{LearnsMeter};
 ghost use Rattle.walking.specs.Walks.{Walks};
 ghost use Rattle.whitening.specs.Whitening.{Whitens};
@@ -87,7 +88,7 @@ pub extern "C" fn cj_walk(r: Register, allowance: u32) -> Walked
 pub extern "C" fn cj_sheet(r: Register) -> Storage
     ensures { λ x. ⌜ Sheets r (x .refusal) (x .cells) (x .«memory_bits») ⌝ }
 {
-    flat::from_sheet(registers::sheet(r))
+    flat::from_sheet(storage::sheet(r))
 }
 
 // The period table at q. Refuses 4: even q, 0, and q above 1,023.

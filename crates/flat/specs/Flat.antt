@@ -13,8 +13,9 @@ use Rattle.learning.specs.Learning as learning
 use Rattle.registers.specs.declared.Stepped as step
 use Rattle.registers.specs.declared.Loaded as load
 use Rattle.registers.specs.declared.ReadBack.{ReadBack}
-use Rattle.registers.specs.declared.StorageSheet.{StorageSheet}
-use Rattle.registers.specs.Answers.{stepNumber, stepBit, stepRegister, loadNumber, loadRegister, readNumber, readP, readQ, sheetNumber, sheetCells, sheetBits}
+use Rattle.storage.specs.declared.StorageSheet.{StorageSheet}
+use Rattle.registers.specs.Answers.{stepNumber, stepBit, stepRegister, loadNumber, loadRegister, readNumber, readP, readQ}
+use Rattle.storage.specs.Storage.{sheetNumber, sheetCells, sheetBits}
 use Rattle.periods.specs.declared.Lookup.{Lookup}
 use Rattle.periods.specs.Answers as table
 use Rattle.walking.specs.declared.Walked as walk

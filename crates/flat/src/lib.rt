@@ -224,16 +224,16 @@ pub fn from_walked(x: walking::Walked) -> Walked
 }
 
 // A storage sheet.
-pub fn from_sheet(x: registers::StorageSheet) -> Storage
+pub fn from_sheet(x: storage::StorageSheet) -> Storage
     ensures { λ r. ⌜ r ≡ flatSheet x ⌝ }
 {
     match x {
-        registers::StorageSheet::Needs(cells, bits) => Storage {
+        storage::StorageSheet::Needs(cells, bits) => Storage {
             refusal: 0,
             cells: cells,
             memory_bits: bits,
         },
-        registers::StorageSheet::Invalid => Storage {
+        storage::StorageSheet::Invalid => Storage {
             refusal: 5,
             cells: 0,
             memory_bits: 0,

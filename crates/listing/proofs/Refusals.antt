@@ -5,11 +5,13 @@ use native.Mathlib.Omega.{arith}
 use lib.IntN.{ℤ}
 use Rattle.fractions.specs.Pairs.{Inside}
 use Rattle.registers.specs.Registers.{Valid, cellCount}
-use Rattle.registers.specs.Answers.{Sheets, sheet, sheetNumber, sheetCells, sheetBits, Loads, loaded}
+use Rattle.registers.specs.Answers.{Loads, loaded}
+use Rattle.storage.specs.Storage.{Sheets, sheet, sheetNumber, sheetCells, sheetBits}
+use Rattle.storage.specs.Storage as S
 use Rattle.registers.specs.Answers as R
 use Rattle.registers.specs.declared.Register.{Register}
-use Rattle.registers.specs.declared.StorageSheet.{StorageSheet}
-use Rattle.registers.specs.declared.StorageSheet.the-variants as Sheet
+use Rattle.storage.specs.declared.StorageSheet.{StorageSheet}
+use Rattle.storage.specs.declared.StorageSheet.the-variants as Sheet
 use Rattle.registers.specs.declared.Loaded.{Loaded}
 use Rattle.registers.specs.declared.Loaded.the-variants as Load
 use Rattle.registers.proofs.Loading.{load-valid}
@@ -26,7 +28,7 @@ cells-of : {g : Register} {cells bits : ℕ} → Sheets g 0 cells bits → cells
 cells-of (sheet v m) = refl
 
 sheet-valid : {g : Register} {cells bits : ℕ} → Valid g → Sheets g 5 cells bits → ⊥
-sheet-valid v (R.invalid n) = n v
+sheet-valid v (S.invalid n) = n v
 
 pub sheet-cells : {g : Register} {a : StorageSheet} {cells bits : ℕ} → Sheets g (sheetNumber a) (sheetCells a) (sheetBits a) → a ≡ Sheet.Needs cells bits → cells ≡ cellCount (g .q)
 sheet-cells {g} h e = cells-of (subst (λ (x : StorageSheet). Sheets g (sheetNumber x) (sheetCells x) (sheetBits x)) e h)

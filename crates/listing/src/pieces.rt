@@ -17,9 +17,9 @@ fn cells(g: Register) -> u32
     requires { ⌜ Valid g ⌝ }
     ensures { λ r. ⌜ r ≡ cellCount (g .q) ⌝ }
 {
-    match registers::sheet(g) {
-        registers::StorageSheet::Needs(cells, _) => cells,
-        registers::StorageSheet::Invalid => 0,
+    match storage::sheet(g) {
+        storage::StorageSheet::Needs(cells, _) => cells,
+        storage::StorageSheet::Invalid => 0,
     }
 }
 

@@ -1,8 +1,8 @@
 -- The answers: each contract determines them, and what loading and reading back are to each other.
 --
---   step-unique, load-unique, read-back-unique, sheet-unique
+--   step-unique, load-unique, read-back-unique
 --                    any two results that meet the contract of one of the public functions are equal
---   steps-same, loads-same, reads-same, sheets-same
+--   steps-same, loads-same, reads-same
 --                    the same of the numbers that the relations are between
 --   load-emits       demand 2: the register loaded from a pair, stepped n times, emits the first n bits of p/q, for every n
 --   load-exists      every pair inside the limits loads, and load-accepted, is not refused
@@ -14,12 +14,11 @@ use mathlib.Core.Path.{_≡_, refl, sym, ap, ap₂, _∙_, subst}
 use Prim.Native.Nat.{ℕ}
 use native.Mathlib.Omega.{arith}
 use lib.IntN.{ℤ, pos, natAbs, negℤ, _+ℤ_}
-use Rattle.integers.proofs.Finite.{least-unique}
 use Rattle.fractions.specs.Pairs.{Inside, Lowest}
 use Rattle.fractions.specs.Expansion.{iterNum, digitsTo}
 use Rattle.fractions.proofs.Lowest.{lowest-unique, inside-lowest}
 use Rattle.registers.specs.Registers.{cellCount, Valid, Load, numOf, outTo}
-use Rattle.registers.specs.Answers.{Steps, stepped, stepNumber, stepBit, stepRegister, Loads, loaded, wide, loadNumber, loadRegister, ReadsBack, pair, readNumber, readP, readQ, Sheets, sheet, sheetNumber, sheetCells, sheetBits}
+use Rattle.registers.specs.Answers.{Steps, stepped, stepNumber, stepBit, stepRegister, Loads, loaded, wide, loadNumber, loadRegister, ReadsBack, pair, readNumber, readP, readQ}
 use Rattle.registers.specs.Answers as A
 use Rattle.registers.specs.declared.Register.{Register}
 use Rattle.registers.specs.declared.Stepped.{Stepped}
@@ -28,8 +27,6 @@ use Rattle.registers.specs.declared.Loaded.{Loaded}
 use Rattle.registers.specs.declared.Loaded.the-variants as Load
 use Rattle.registers.specs.declared.ReadBack.{ReadBack}
 use Rattle.registers.specs.declared.ReadBack.the-variants as Read
-use Rattle.registers.specs.declared.StorageSheet.{StorageSheet}
-use Rattle.registers.specs.declared.StorageSheet.the-variants as Sheet
 use Rattle.taps.specs.Sums.{overTo}
 use Rattle.registers.proofs.Memory.{load-narrow}
 use Rattle.registers.proofs.States.{emits}
@@ -130,16 +127,3 @@ load-read-back p q g n p' q' (loaded i l m) (A.ReadsBack.outside p″ q″ v k j
 pub read-back-emits : (n : ℕ) (g h : Register) (p : ℤ) (q : ℕ) → ReadsBack g 0 p q → Loads p q 0 h → outTo n h ≡ outTo n g
 read-back-emits n g h p q (pair v k i) l =
     load-emits n p q h l ∙ digits-same n p q (numOf g) (g .q) (i .odd) (v .odd) (sym (k .same)) ∙ sym (emits n g v)
-
--- ---- sheet
-pub sheets-same : {g : Register} {m n a b c d : ℕ} → Sheets g m a b → Sheets g n c d → (m ≡ n) × (a ≡ c) × (b ≡ d)
-sheets-same (sheet v a) (sheet w b) = (refl, refl, least-unique a b)
-sheets-same (sheet v a) (A.Sheets.invalid w) = absurd (w v)
-sheets-same (A.Sheets.invalid v) (sheet w b) = absurd (v w)
-sheets-same (A.Sheets.invalid v) (A.Sheets.invalid w) = (refl, refl, refl)
-
-pub sheet-unique : (g : Register) (r s : StorageSheet) → Sheets g (sheetNumber r) (sheetCells r) (sheetBits r) → Sheets g (sheetNumber s) (sheetCells s) (sheetBits s) → r ≡ s
-sheet-unique g (Sheet.Needs a b) (Sheet.Needs c d) h k = let e = sheets-same h k in ap₂ Sheet.Needs (e .1) (e .2)
-sheet-unique g (Sheet.Needs a b) Sheet.Invalid h k = absurd (omega (arith, sheets-same h k .0))
-sheet-unique g Sheet.Invalid (Sheet.Needs c d) h k = absurd (omega (arith, sheets-same h k .0))
-sheet-unique g Sheet.Invalid Sheet.Invalid h k = refl

@@ -1,9 +1,8 @@
 -- The laws on registers: Validity has their ranges, Numerators the step law, States that state and numerator determine each other, Loading the rule for loading,
--- Sheets the storage sheet, Answers that each answer is unique.
+-- Answers that each answer is unique.
 pub mod Validity
 pub mod Numerators
 pub mod States
 pub mod Loading
-pub mod Sheets
 pub mod Answers
 pub mod Memory

@@ -4,12 +4,11 @@
 --   Steps g number bit register   a step: 0, or 5 and the register as it was given   ("Step and sheet: 5.")
 --   Loads p q number register     a load: 0, 4, or 8                                 ("Load: 4, 8.")
 --   ReadsBack g number p q        a pair read back: 0, 5, or 7                       ("Read back: 5, 7.")
---   Sheets g number cells bits    the storage sheet: 0, or 5
 -- The functions over them give the number and the values of every case of each answer.
 use Prim.Native.Nat.{ℕ, _^_, _≤_, _<_}
 use lib.IntN.{ℤ, pos, natAbs}
 use Rattle.fractions.specs.Pairs.{Inside, Lowest}
-use Rattle.registers.specs.Registers.{Valid, emitted, nextOf, numOf, cellCount, Load, MemoryBits}
+use Rattle.registers.specs.Registers.{Valid, emitted, nextOf, numOf, cellCount, Load}
 use Rattle.registers.specs.declared.Register.{Register}
 use Rattle.registers.specs.declared.Stepped.{Stepped}
 use Rattle.registers.specs.declared.Stepped.the-variants as Step
@@ -17,8 +16,6 @@ use Rattle.registers.specs.declared.Loaded.{Loaded}
 use Rattle.registers.specs.declared.Loaded.the-variants as Load
 use Rattle.registers.specs.declared.ReadBack.{ReadBack}
 use Rattle.registers.specs.declared.ReadBack.the-variants as Read
-use Rattle.registers.specs.declared.StorageSheet.{StorageSheet}
-use Rattle.registers.specs.declared.StorageSheet.the-variants as Sheet
 
 -- ---- step
 
@@ -84,22 +81,3 @@ pub data ReadsBack (g : Register) : ℕ → ℤ → ℕ → Type 0 where
   invalid : (Valid g → ⊥) → ReadsBack g 5 (pos 0) 0
   -- "read-back pair, in lowest terms, outside the limits"
   outside : (p : ℤ) (q : ℕ) → Valid g → Lowest (numOf g) (g .q) p q → (Inside p q → ⊥) → ReadsBack g 7 (pos 0) 0
-
--- ---- sheet
-
-abbrev pub sheetNumber : StorageSheet → ℕ
-sheetNumber (Sheet.Needs cells bits) = 0
-sheetNumber Sheet.Invalid = 5
-
-abbrev pub sheetCells : StorageSheet → ℕ
-sheetCells (Sheet.Needs cells bits) = cells
-sheetCells Sheet.Invalid = 0
-
-abbrev pub sheetBits : StorageSheet → ℕ
-sheetBits (Sheet.Needs cells bits) = bits
-sheetBits Sheet.Invalid = 0
-
--- "Cells: r. Memory bits: the bit length of w - 1"
-pub data Sheets (g : Register) : ℕ → ℕ → ℕ → Type 0 where
-  sheet : {bits : ℕ} → Valid g → MemoryBits (g .q) bits → Sheets g 0 (cellCount (g .q)) bits
-  invalid : (Valid g → ⊥) → Sheets g 5 0 0

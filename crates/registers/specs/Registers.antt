@@ -14,12 +14,10 @@
 --   yTo q a r     "y is the sum, i from 0 to r-1 and j from 0 to i, of q_j·a_(i-j)·2^i"
 --   numOf g       its numerator: "p = y - m·2^r"
 --   Load p q g    "Cells: the first r bits of p/q. .. m = (y - p)/2^r, which is whole."
---   MemoryBits q k  "Memory bits: the bit length of w - 1, w being the number of ones in q+1", the bit length of n being the least k with n < 2^k
 use mathlib.Core.Path.{_≡_}
 use Prim.Native.Nat.{ℕ, zero, suc, _+_, _-_, _*_, _/_, _%_, _^_, _≤_, _<_}
-use lib.Count.{ones}
 use lib.IntN.{ℤ, pos, negsuc, natAbs, _+ℤ_, _-ℤ_, _*ℤ_}
-use Rattle.integers.specs.Numbers.{oddZ, halfZ, log2, Least}
+use Rattle.integers.specs.Numbers.{oddZ, halfZ, log2}
 use Rattle.bits.specs.Bits.{bitOf}
 use Rattle.fractions.specs.Pairs.{limit}
 use Rattle.fractions.specs.Expansion.{digitsTo}
@@ -73,7 +71,7 @@ unfoldable pub outTo : ℕ → Register → ℕ
 outTo zero g = 0
 outTo (suc n) g = outTo n g + emitted (iterOf n g) * 2 ^ n
 
--- ---- the numerator, loading, and the sheet
+-- ---- the numerator, and loading
 
 unfoldable pub yTo : ℕ → ℕ → ℕ → ℤ
 yTo q a r = sumBelow r (λ i. sumBelow (suc i) (λ j. tap q j *ℤ cell a (i - j) *ℤ pos (2 ^ i)))
@@ -85,6 +83,3 @@ pub record Load (p : ℤ) (q : ℕ) (g : Register) : Type 0 where
   pub q-is : g .q ≡ q
   pub cells : g .cells ≡ digitsTo q (cellCount q) p
   pub memory : g .memory *ℤ pos (2 ^ cellCount q) ≡ yTo q (g .cells) (cellCount q) -ℤ p
-
-abbrev pub MemoryBits : ℕ → ℕ → Type 0
-MemoryBits q bits = Least (λ k. ones (q + 1) - 1 < 2 ^ k) bits

@@ -1,14 +1,12 @@
-// The register: step, load, read back, sheet. The contracts cite Registers and Answers of specs/.
+// The register: step, load, read back. The contracts cite Registers and Answers of specs/.
 ghost use mathlib.Core.Path.{_≡_};
 ghost use Prim.Native.Nat.{_+_, _-_, _*_, _/_, _%_, _^_, _≤_, _<_};
 ghost use lib.IntN.{natAbs};
-ghost use Rattle.integers.specs.Numbers.{Least};
 ghost use Rattle.integers.specs.Numbers.{Decides};
 ghost use Rattle.registers.specs.Registers.{Valid, nextOf, numOf};
 ghost use Rattle.registers.specs.Answers.{Steps, stepNumber, stepBit, stepRegister};
 ghost use Rattle.registers.specs.Answers.{Loads, loadNumber, loadRegister};
 ghost use Rattle.registers.specs.Answers.{ReadsBack, readNumber, readP, readQ};
-ghost use Rattle.registers.specs.Answers.{Sheets, sheetNumber, sheetCells, sheetBits};
 ghost use Rattle.registers.specs.Inner.{LoadsTo, StateOf, HasState};
 use fractions::Fraction;
 use fractions::LIMIT;
@@ -43,12 +41,6 @@ pub enum ReadBack {
     Pair(Fraction),
     Invalid,
     Outside,
-}
-
-// The number of cells and the bits of memory, or refusal 5.
-pub enum StorageSheet {
-    Needs(u32, u32),
-    Invalid,
 }
 
 // Cells and a memory that may still be too wide for a register.
@@ -188,24 +180,5 @@ pub fn read_back(g: Register) -> ReadBack
         }
     } else {
         ReadBack::Invalid
-    }
-}
-
-// The number of bits of n: 0 for 0.
-fn bit_length(n: u32) -> u32
-    ensures { λ r. ⌜ Least (λ k. n < 2 ^ k) r ⌝ }
-{
-    32 - u32::leading_zeros(n)
-}
-
-// The storage sheet: the cells, and the bits that the memory of a register without lead-in needs.
-pub fn sheet(g: Register) -> StorageSheet
-    ensures { λ r. ⌜ Sheets g (sheetNumber r) (sheetCells r) (sheetBits r) ⌝ }
-{
-    if is_valid(g) {
-        let q = g.q;
-        StorageSheet::Needs(sums::cell_count(q), bit_length(u32::count_ones(q + 1) - 1))
-    } else {
-        StorageSheet::Invalid
     }
 }

@@ -5,7 +5,7 @@ use registers::Loaded;
 use registers::ReadBack;
 use registers::Register;
 use registers::Stepped;
-use registers::StorageSheet;
+use storage::StorageSheet;
 
 fn print_register(g: Register) {
     show::field(g.q as u64);
@@ -68,7 +68,7 @@ fn print_answers(p: i32, g: Register) {
     show::comma();
     print_read_back(registers::read_back(g));
     show::comma();
-    print_sheet(registers::sheet(g));
+    print_sheet(storage::sheet(g));
     show::line_end();
 }
 

@@ -1,7 +1,7 @@
 -- `capi::cj_sheet` meets its contract: `sheet`'s own relation, at the fields of the flat answer.
 use mathlib.Core.Path.{sym, subst}
 use Rattle.registers.specs.declared.Register.{Register}
-use Rattle.registers.specs.Answers.{Sheets}
+use Rattle.storage.specs.Storage.{Sheets}
 use Rattle.flat.specs.declared.Storage.{Storage}
 use borrow.Author.Needs.{needs}
 use Rattle.capi.proofs.cj_sheet.Statement.{statement}

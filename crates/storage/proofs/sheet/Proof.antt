@@ -1,15 +1,15 @@
--- `registers::sheet` meets its contract: both figures are those of q alone.
+-- `storage::sheet` meets its contract: both figures are those of q alone.
 use borrow.Author.Needs.{needs}
 use mathlib.Core.Path.{sym, subst}
 use Prim.Native.Nat.{ℕ}
 use native.Mathlib.Omega.{arith}
 use Rattle.integers.specs.Numbers.{Decides}
 use Rattle.registers.specs.Registers.{Valid}
-use Rattle.registers.specs.Answers.{Sheets, sheet, invalid}
+use Rattle.storage.specs.Storage.{Sheets, sheet, invalid}
 use Rattle.registers.proofs.Validity.{facts}
-use Rattle.registers.proofs.Sheets.{ones-next}
-use Rattle.registers.proofs.sheet.Statement.{statement}
-use Rattle.registers.proofs.sheet.Tie as tie
+use Rattle.storage.proofs.Widths.{ones-next}
+use Rattle.storage.proofs.sheet.Statement.{statement}
+use Rattle.storage.proofs.sheet.Tie as tie
 
 is-valid-requires : tie.Need-is-valid-requires
 is-valid-requires c κs = search needs

@@ -1,7 +1,7 @@
--- `registers::bit_length` meets its contract: all 32 bits but the zeros above the highest one.
+-- `storage::bit_length` meets its contract: all 32 bits but the zeros above the highest one.
 use native.Mathlib.Omega.{arith}
-use Rattle.registers.proofs.bit_length.Statement.{statement}
-use Rattle.registers.proofs.bit_length.Tie as tie
+use Rattle.storage.proofs.bit_length.Statement.{statement}
+use Rattle.storage.proofs.bit_length.Tie as tie
 use Rattle.integers.proofs.Log2.{leading-most, length-leading}
 
 sub-result : tie.Need-sub-result

@@ -1,0 +1,2 @@
+-- The root of the specs: Storage has the words of the document on the storage sheet.
+pub mod Storage
