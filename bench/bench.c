@@ -254,6 +254,35 @@ static void bench_walking(uint32_t q, const char *what)
     row(what, calls);
 }
 
+/* ---- the sheet ---- */
+
+static cj_register registers[INPUTS];
+
+static uint32_t sheet_library(unsigned i)
+{
+    cj_storage x = cj_sheet(registers[i % INPUTS]);
+    return 64 * x.cells + x.memory_bits;
+}
+
+static uint32_t sheet_plain(unsigned i)
+{
+    cj_storage x = plain_sheet(registers[i % INPUTS]);
+    return 64 * x.cells + x.memory_bits;
+}
+
+/* Of memories of every width. */
+static void bench_sheet(void)
+{
+    call *calls[COLUMNS] = {sheet_library, sheet_plain, NULL};
+    for (unsigned i = 0; i < INPUTS; i++) {
+        uint32_t q = (uint32_t)(random_number() % CJ_LIMIT) | 1;
+        int32_t m = (int32_t)(random_number() % CJ_MOST_MEMORY >> i % 30);
+        registers[i] = (cj_register){q, 0, i % 2 == 0 ? m : -m};
+        must_be_same("the sheet", sheet_library(i) == sheet_plain(i));
+    }
+    row("sheet", calls);
+}
+
 /* ---- taking ---- */
 
 static uint8_t store[CJ_STORE_BYTES], block[CJ_BLOCK_BYTES];
@@ -340,6 +369,7 @@ int main(void)
     bench_whitening();
     bench_walking(65371, "walk, q = 65371");
     bench_walking(1073741789u, "walk, q = 1073741789");
+    bench_sheet();
     bench_taking();
     return 0;
 }

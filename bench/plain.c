@@ -3,6 +3,7 @@
  *   learning    the paper's figure 4, bit by bit, over the 61 bits that decide; the other bits are checked one by one
  *   stepping    the taps as a mask, and one count of ones
  *   whitening   eight steps for each byte
+ *   the sheet   a width more and a width more, until both numbers fit
  *   walking     steps until the numerator is one that repeats, then until the saved state comes back
  *   taking      judge the store and the block, then shift each record's bytes into its place
  */
@@ -165,6 +166,22 @@ cj_walked plain_walk(cj_register r, uint32_t allowance)
     if (lead + period > allowance)
         return (cj_walked){CJ_ALLOWANCE_TOO_SMALL, 0, 0, 0};
     return (cj_walked){CJ_OK, lead, period, lead + period};
+}
+
+/* ---- the sheet ---- */
+
+static bool holds(unsigned n, int64_t x)
+{
+    int64_t half = (int64_t)1 << (n - 1);
+    return -half <= x && x < half;
+}
+
+cj_storage plain_sheet(cj_register r)
+{
+    unsigned cells = 31 - (unsigned)__builtin_clz(r.q + 1), most = (unsigned)__builtin_popcount(r.q + 1) - 1, n = 1;
+    while (!holds(n, r.memory) || !holds(n, most))
+        n++;
+    return (cj_storage){CJ_OK, cells, n};
 }
 
 /* ---- the store ---- */

@@ -8,6 +8,7 @@
 cj_fraction plain_learn(const uint8_t *bytes, uint32_t count);
 uint32_t plain_whiten(cj_register *r, uint8_t *bytes, size_t len);
 cj_walked plain_walk(cj_register r, uint32_t allowance);
+cj_storage plain_sheet(cj_register r);
 cj_taken plain_take(uint8_t *store, const uint8_t *block, size_t block_len);
 
 #endif

@@ -40,10 +40,10 @@ extern "C" {
 #endif
 
 /*
- * The version of this interface: 0.1.0, a byte to each part. While the first part is 0 the interface still grows: the second part is raised where
+ * The version of this interface: 0.2.0, a byte to each part. While the first part is 0 the interface still grows: the second part is raised where
  * something that was declared has changed, or means something else; the third where something was added.
  */
-#define CJ_VERSION 0x000100
+#define CJ_VERSION 0x000200
 
 #define CJ_LIMIT 1073741823         /* 2^30 - 1: the largest q, and the largest p of either sign */
 #define CJ_MOST_MEMORY 1073741824   /* 2^30: the largest memory of a valid register, of either sign */
@@ -230,13 +230,15 @@ cj_stepped cj_step(cj_register r);
 cj_walked cj_walk(cj_register r, uint32_t allowance);
 
 /*
- * The cells of the register, r, and the bits that its memory needs once it has no lead-in: the bit length of w - 1,
- * w being the number of ones in q+1.
+ * The cells of the register, r, and the bits that hold its memory in two's complement, now and after any number of steps: the least
+ * n >= 1 with both the memory and w - 1 between -2^(n-1) and 2^(n-1) - 1, w being the number of ones in q+1.
  * Refuses: CJ_REGISTER_INVALID.
  *
- *     cj_register r = {37, 19, 0}; // 38 has three ones
+ *     cj_register r = {37, 19, 0}; // 38 has three ones, and 2 takes three bits with its sign
  *     cj_storage storage = cj_sheet(r);
- *     assert(storage.refusal == CJ_OK && storage.cells == 5 && storage.memory_bits == 2);
+ *     assert(storage.refusal == CJ_OK && storage.cells == 5 && storage.memory_bits == 3);
+ *     r.memory = -4; // -4 takes three bits too
+ *     assert(cj_sheet(r).memory_bits == 3);
  */
 cj_storage cj_sheet(cj_register r);
 

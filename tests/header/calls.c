@@ -206,9 +206,11 @@ static void walk(void)
 static void sheet(void)
 {
     cj_storage x = cj_sheet(made(37, 19, 0));
-    CHECK(x.refusal == CJ_OK && x.cells == 5 && x.memory_bits == 2);
-    x = cj_sheet(made(CJ_LIMIT, 0, CJ_MOST_MEMORY)); /* q + 1 is 2^30 */
-    CHECK(x.refusal == CJ_OK && x.cells == 30 && x.memory_bits == 0);
+    CHECK(x.refusal == CJ_OK && x.cells == 5 && x.memory_bits == 3);
+    x = cj_sheet(made(CJ_LIMIT, 0, CJ_MOST_MEMORY)); /* 2^30 takes a bit more than -2^30; q + 1 has one one */
+    CHECK(x.refusal == CJ_OK && x.cells == 30 && x.memory_bits == 32);
+    CHECK(cj_sheet(made(CJ_LIMIT, 0, -CJ_MOST_MEMORY)).memory_bits == 31);
+    CHECK(cj_sheet(made(CJ_LIMIT, 0, 0)).memory_bits == 1);
     x = cj_sheet(made(CJ_LIMIT, 0, -CJ_MOST_MEMORY - 1));
     CHECK(x.refusal == CJ_REGISTER_INVALID && x.cells == 0 && x.memory_bits == 0);
     CHECK(cj_sheet(made(CJ_LIMIT + 2, 0, 0)).refusal == CJ_REGISTER_INVALID);

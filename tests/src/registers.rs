@@ -115,15 +115,21 @@ pub fn read_back(register: Register) -> Fraction {
     Fraction::of(p as i64, q as i64)
 }
 
-/// "Cells: r. Memory bits: the bit length of w - 1, w being the number of ones in q+1 (bit length of 0 is 0)."
+/// Whether n signed bits hold x: "between -2^(n-1) and 2^(n-1) - 1".
+pub fn holds(n: u32, x: i128) -> bool {
+    let half = 1 << (n - 1);
+    (-half..half).contains(&x)
+}
+
+/// "Cells: r." Memory bits: "the least n >= 1 with both between", the memory and w - 1, w being the number of ones in q+1.
 pub fn sheet(register: Register) -> Storage {
     if !is_valid(register) {
         return Storage { refusal: 5, ..Storage::default() };
     }
     let r = length(register.q);
     let w: i128 = (1..=r).map(|k| tap(register.q, k)).sum();
-    let mut memory_bits = 0;
-    while 1 << memory_bits <= w - 1 {
+    let mut memory_bits = 1;
+    while !holds(memory_bits, register.memory as i128) || !holds(memory_bits, w - 1) {
         memory_bits += 1;
     }
     Storage { refusal: 0, cells: r as u32, memory_bits }
@@ -150,10 +156,15 @@ mod tests {
 
     #[test]
     fn lengths_and_sheets() {
-        for (q, r, bits) in [(1, 1, 0), (3, 2, 0), (5, 2, 1), (7, 3, 0), (37, 5, 2), (LIMIT as u32, 30, 0), (LIMIT as u32 - 2, 29, 5)] {
+        for (q, r, bits) in [(1, 1, 1), (3, 2, 1), (5, 2, 2), (7, 3, 1), (37, 5, 3), (LIMIT as u32, 30, 1), (LIMIT as u32 - 2, 29, 6)] {
             assert_eq!(length(q), r);
             assert_eq!(sheet(Register { q, cells: 0, memory: 0 }), Storage { refusal: 0, cells: r as u32, memory_bits: bits }, "{q}");
         }
+        for (memory, bits) in [(-1, 1), (1, 2), (-4, 3), (3, 3), (4, 4), (-5, 4), (1 << 30, 32), (-(1 << 30), 31)] {
+            assert_eq!(sheet(Register { q: 1, cells: 0, memory }).memory_bits, bits, "{memory}");
+        }
+        assert_eq!(sheet(loaded(-1, 37)).memory_bits, 3);
+        assert_eq!(sheet(loaded(2, 1)).memory_bits, 1);
         assert_eq!(sheet(Register { q: 4, cells: 0, memory: 0 }).refusal, 5);
     }
 

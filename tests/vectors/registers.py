@@ -95,7 +95,10 @@ def sheet(q, a, m):
     """number, cells, bits"""
     if not valid(q, a, m):
         return 5, 0, 0
-    return 0, length(q), (bin(q + 1).count("1") - 1).bit_length()
+    n = 1  # the least signed width that holds the memory and w - 1
+    while not all(-(2 ** (n - 1)) <= x <= 2 ** (n - 1) - 1 for x in (m, bin(q + 1).count("1") - 1)):
+        n += 1
+    return 0, length(q), n
 
 
 cases, lines = [], []
@@ -155,7 +158,7 @@ def main():
                 run("load", p, q, 0, 0)
     for q in (1, 3, 5, 37, B):
         for a in (0, 2 ** length(q) - 1):
-            for m in (2**30, -(2**30), -1, 1):
+            for m in (2**30, -(2**30), -1, 1, -4, -5, 3, 4):
                 run_three("edge", (q, a, m))
     for g in (
         (36, 19, 0), (0, 0, 0), (B + 1, 0, 0), (B + 2, 0, 0), (2**32 - 1, 0, 0), (37, 32, 0), (1, 2, 0), (B, 2**30, 0),

@@ -24,8 +24,8 @@ use flat::Walked;
 use flat::Word;
 use registers::Register;
 
-// 0.1.0, a byte to each part.
-const VERSION: u32 = 0x000100;
+// 0.2.0, a byte to each part.
+const VERSION: u32 = 0x000200;
 
 // The version of this interface, so that a program can tell whether it was compiled with the header of the library that it is linked with.
 #[no_mangle]
@@ -83,7 +83,7 @@ pub extern "C" fn cj_walk(r: Register, allowance: u32) -> Walked
     flat::from_walked(walking::walk(r, allowance))
 }
 
-// The storage sheet of a register: its cells, and the bits of its memory. Refuses 5.
+// The storage sheet of a register: its cells, and the bits that hold its memory now and after any number of steps. Refuses 5.
 #[no_mangle]
 pub extern "C" fn cj_sheet(r: Register) -> Storage
     ensures { λ x. ⌜ Sheets r (x .refusal) (x .cells) (x .«memory_bits») ⌝ }

@@ -43,7 +43,7 @@ qTo q zero = 0
 qTo q (suc k) = qTo q k + bitOf (q + 1) (suc k) * 2 ^ suc k
 
 -- one more digit, taken at the top or at the bottom
-top-digit : (a i : ℕ) → a % 2 ^ suc i ≡ bitOf a i * 2 ^ i + a % 2 ^ i
+pub top-digit : (a i : ℕ) → a % 2 ^ suc i ≡ bitOf a i * 2 ^ i + a % 2 ^ i
 top-digit a i = rw (sym (add-one i) ∙ add-comm i 1) (mod-pow-add a 1 i)
 
 pub low-digit : (a i : ℕ) → a % 2 ^ suc i ≡ a / 2 % 2 ^ i * 2 + a % 2

@@ -1,3 +1,4 @@
--- The laws on the storage sheet: Widths has the length of numbers in bits, Answers that the answer is unique.
+-- The laws on the storage sheet: Widths has the least signed width, Memories that it holds every memory that is reached, Answers that the answer is unique.
 pub mod Widths
+pub mod Memories
 pub mod Answers

@@ -3,7 +3,7 @@
 
 use crate::lent::{any_side, Bytes, LentRegister};
 use crate::library::Library;
-use reference::answers::{BLOCK_BYTES, METERS, MOST_BITS, PLACE_BYTES, WHITEN_BYTES};
+use reference::answers::{Register, BLOCK_BYTES, METERS, MOST_BITS, PLACE_BYTES, WHITEN_BYTES};
 use reference::fractions::packed;
 use reference::inputs::*;
 use reference::pick;
@@ -192,10 +192,33 @@ fn walk(library: &dyn Library, case: u64, random: &mut Random) -> Outcome {
     compare(expected.refusal, expected, library.walk(register, allowance), || format!("{register:?}, allowance {allowance}"))
 }
 
-fn sheet(library: &dyn Library, _: u64, random: &mut Random) -> Outcome {
-    let register = any_register(random);
+const SMALL_MEMORIES: [i32; 13] = [-(1 << 30), -5, -4, -3, -2, -1, 0, 1, 2, 3, 4, 5, 1 << 30];
+
+/// First every odd q to 127 with each of these memories, with no cell set, all of them, and any: stepped 200 times, none needs more than the
+/// sheet says. Then any register.
+fn sheet(library: &dyn Library, case: u64, random: &mut Random) -> Outcome {
+    let (q, memory) = (2 * (case % 64) as u32 + 1, SMALL_MEMORIES[(case / 64 % 13) as usize]);
+    let all = (1 << registers::length(q)) - 1;
+    let register = match case / 64 / 13 {
+        0 => Register { q, cells: 0, memory },
+        1 => Register { q, cells: all, memory },
+        2 => Register { q, cells: random.next() as u32 & all, memory },
+        _ => any_register(random),
+    };
     let expected = registers::sheet(register);
-    compare(expected.refusal, expected, library.sheet(register), || format!("{register:?}"))
+    let found = library.sheet(register);
+    if case / 64 / 13 < 3 && found == expected {
+        let mut stepped = register;
+        for steps in 1..=200 {
+            stepped = library.step(stepped).state;
+            if !registers::holds(found.memory_bits, stepped.memory as i128) {
+                let expected = format!("no memory past {} bits", found.memory_bits);
+                let found = format!("{stepped:?} after {steps} steps");
+                return Err(Box::new(Difference { inputs: format!("{register:?}"), expected, found }));
+            }
+        }
+    }
+    compare(expected.refusal, expected, found, || format!("{register:?}"))
 }
 
 fn period(library: &dyn Library, case: u64, random: &mut Random) -> Outcome {

@@ -60,7 +60,11 @@ pub const MISTAKES: &[Mistake] = &[
     mistake("cj_walk", "allowance must exceed the sum"),
     mistake("cj_walk", "allowance for the period alone"),
     mistake("cj_walk", "lead-in forgotten in the sum"),
-    mistake("cj_sheet", "bit length of w"),
+    mistake("cj_sheet", "no sign bit"),
+    mistake("cj_sheet", "w in place of w - 1"),
+    mistake("cj_sheet", "the memory alone"),
+    mistake("cj_sheet", "w - 1 alone"),
+    mistake("cj_sheet", "a negative memory by its size"),
     mistake("cj_sheet", "r from q, not q+1"),
     mistake("cj_period", "1,023 refused"),
     mistake("cj_period", "0 for q = 1"),
@@ -325,10 +329,19 @@ impl Library for Planted {
 
     fn sheet(&self, register: Register) -> Storage {
         let right = registers::sheet(register);
-        let w = (register.q as u64 + 1).count_ones();
+        if right.refusal != 0 {
+            return right;
+        }
+        let w = (register.q as i128 + 1).count_ones() as i128;
+        let memory = register.memory as i128;
+        let both = |x: i128, y: i128| (1..).find(|&n| registers::holds(n, x) && registers::holds(n, y)).unwrap_or(0);
         match self.mistake {
-            "bit length of w" if right.refusal == 0 => Storage { memory_bits: 32 - w.leading_zeros(), ..right },
-            "r from q, not q+1" if right.refusal == 0 => Storage { cells: register.q.ilog2(), ..right },
+            "no sign bit" => Storage { memory_bits: right.memory_bits - 1, ..right },
+            "w in place of w - 1" => Storage { memory_bits: both(memory, w), ..right },
+            "the memory alone" => Storage { memory_bits: both(memory, memory), ..right },
+            "w - 1 alone" => Storage { memory_bits: both(w - 1, w - 1), ..right },
+            "a negative memory by its size" => Storage { memory_bits: both(memory.abs(), w - 1), ..right },
+            "r from q, not q+1" => Storage { cells: register.q.ilog2(), ..right },
             _ => right,
         }
     }
