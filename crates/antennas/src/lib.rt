@@ -1,5 +1,7 @@
 // The two-antenna reader: one record of one meter, out of the first antenna's block or the second's. Both questions go through the one
 // parser of `records`. The contracts cite Antennas of specs/.
+#![tactic(auto)]
+
 ghost use Rattle.std.specs.Prelude.{◌≡◌, ◌<◌};
 ghost use Rattle.records.specs.Block.{parse};
 ghost use Rattle.records.specs.Named.{named};

@@ -1,6 +1,8 @@
 // Runs the two-antenna reader, by the cases on standard input. tests/vectors/antennas.py writes them and what is expected.
 //
 // A case: its name; the first antenna's block and the second's; the meter and the ordinal.
+#![tactic(auto)]
+
 use antennas::About;
 
 fn print_bytes(bytes: &[u8]) {

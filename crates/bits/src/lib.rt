@@ -1,4 +1,6 @@
 // Bytes and bits: reading one, and testing that no bit stands past a count. The contracts cite Bits of specs/.
+#![tactic(auto)]
+
 ghost use Rattle.std.specs.Prelude.{◌≡◌, ◌<◌, ◌^◌, get_or, ltb};
 ghost use Rattle.bits.specs.Bits.{num, bit_at};
 

@@ -1,4 +1,6 @@
 // Learning by meter number: the smallest fraction of the bits in a meter's place of the store. The contract cites ByMeter of specs/.
+#![tactic(auto)]
+
 ghost use Rattle.by_meter.specs.ByMeter.{LearnsMeter, meter_number, meter_p, meter_q};
 
 // The fraction of a meter's burst, or refusal 10, 14 or 3.

@@ -2,6 +2,8 @@
 // there. Each but `cj_version` calls the library and has `flat` lay the answer out: the refusal's number first, 0 for none; on a refusal every other number is 0, but for a place and a
 // register handed back, and nothing lent has changed. Each comment lists the refusals in the order in which they are tried. Where the buffers are as the header asks,
 // every call is answered or refused. The contracts are the library's own relations between arguments and answers, at the fields, with Flat of specs/.
+#![tactic(auto)]
+
 ghost use Rattle.std.specs.Prelude.{◌≡◌};
 ghost use Rattle.fractions.specs.Answers.{Outputs};
 ghost use Rattle.learning.specs.Learning.{Learns};

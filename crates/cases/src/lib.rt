@@ -1,6 +1,8 @@
 // Reading cases from standard input, for the programs that run values: what they share. Numbers stand lowest byte first. Past the end of the
 // input everything is 0. No contract can say what is read; those here say all else: which number the bytes are, how many were put where, and that no
 // other byte has changed. They cite Cases of specs/.
+#![tactic(auto)]
+
 ghost use Rattle.std.specs.Prelude.{◌≡◌, ◌+◌, ◌*◌, ◌^◌};
 ghost use Rattle.io.specs.Counts.{IsPrefixLen};
 ghost use Rattle.bits.specs.Bits.{window};

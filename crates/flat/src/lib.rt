@@ -1,5 +1,7 @@
 // The library's answers laid out flat, for the C interface alone: one `#[repr(C)]` struct for each kind of answer, the refusal's number first, and one function
 // that lays an answer out. A function of the C interface is then a call of the library and a call of this crate. The contracts cite Flat of specs/.
+#![tactic(auto)]
+
 ghost use Rattle.std.specs.Prelude.{◌≡◌};
 ghost use Rattle.flat.specs.Flat.{no_fraction, no_register, no_walk, no_record, flat_learned, flat_by_meter, flat_read_back, flat_loaded, flat_stepped, flat_sheet, flat_walked, flat_lookup, flat_output, flat_taken, flat_about, NarrowPlace, NarrowRecord};
 

@@ -1,4 +1,6 @@
 // Fractions p/q: the limits, lowest terms, and the output word. The contracts cite Pairs, Expansion and Answers of specs/.
+#![tactic(auto)]
+
 ghost use Rattle.std.specs.Prelude.{◌^◌, ◌<◌, ◌≤◌, unsigned_abs};
 ghost use Rattle.integers.specs.Numbers.{Decides};
 ghost use Rattle.fractions.specs.Pairs.{Inside};

@@ -1,4 +1,6 @@
 // Runs the output word, the limits and lowest terms on edge values. The expected output comes from tests/vectors/fractions.py.
+#![tactic(auto)]
+
 use fractions::Output;
 
 fn print_word(p: i32, q: u32) {

@@ -1,4 +1,6 @@
 // Numbers alone: what the other crates count with. The contracts cite Numbers of specs/.
+#![tactic(auto)]
+
 ghost use Rattle.std.specs.Prelude.{◌≡◌, ◌*◌, ◌%◌, ◌^◌, ◌<◌, unsigned_abs};
 ghost use Rattle.integers.specs.Numbers.{IsGcd};
 ghost use Rattle.integers.specs.Inner.{Newton};

@@ -2,6 +2,8 @@
 //
 // Fewer than 61 bits are searched bit by bit (crate reduction). From 61 bits on two pairs inside the limits that fit are the same fraction, so a guess by
 // Euclid's algorithm on the first 61 bits (guess) is right if it fits them all (tail), and if it is outside the limits or does not fit, no pair does.
+#![tactic(auto)]
+
 ghost use Rattle.std.specs.Prelude.{◌≤◌, ◌<◌};
 ghost use Rattle.learning.specs.Learning.{number_of, p_of, q_of, Enough, Learns};
 

@@ -2,6 +2,8 @@
 // cases and what is expected.
 //
 // A case: the count in eight bytes; the bytes.
+#![tactic(auto)]
+
 use learning::Learned;
 
 fn report(answer: Learned) {

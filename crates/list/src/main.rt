@@ -1,5 +1,7 @@
 // The listing program: a block on standard input, and its listing on standard output. It only reads, calls and writes: what it prints is
 // `list_text::print` of the block. Where the input cannot be read, it says so on standard error and prints nothing.
+#![tactic(auto)]
+
 use libc::{STDERR_FILENO, STDIN_FILENO, STDOUT_FILENO};
 
 // One byte more than the longest block, so that a longer input is seen and refused, and not cut.

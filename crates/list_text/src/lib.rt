@@ -1,5 +1,7 @@
 // All that the listing program prints for a block, as text on lent bytes. The contracts cite Prints of specs/, and Lines of the crate `listing`;
 // that the length is inside the bytes is said besides, so that a caller may lend `&out[..n]`.
+#![tactic(auto)]
+
 ghost use Rattle.std.specs.Prelude.{◌+◌, ◌≤◌, length};
 ghost use Rattle.io.specs.Counts.{IsPrefixLen};
 ghost use Rattle.records.specs.Block.{meters};

@@ -1,5 +1,7 @@
 // The listing: its header, the line of one meter and the line of a refused block, as text on lent bytes. The contracts cite Lines of specs/;
 // that a length is inside the bytes is said besides, so that callers may lend `&out[..n]`.
+#![tactic(auto)]
+
 ghost use Rattle.std.specs.Prelude.{[], ◌≤◌, length};
 ghost use Rattle.io.specs.Counts.{IsPrefixLen};
 ghost use Rattle.text.specs.Text.{Wrote, Writes};

@@ -1,5 +1,7 @@
 // Bits in bytes, many at a time: reading a window of them, and appending them. Not entry points: their callers in other crates show that the window is small, and
 // that there is room. The contracts cite Bits of the crate `bits`, and Inner of specs/.
+#![tactic(auto)]
+
 ghost use Rattle.std.specs.Prelude.{◌≡◌, ◌+◌, ◌*◌, ◌<◌, ◌≤◌, ◌%◌, ◌^◌, length, get_or, set};
 ghost use Rattle.bits.specs.Bits.{num, digits, window};
 ghost use Rattle.packing.specs.Inner.{five_from, WordFits, MoreFits};

@@ -1,4 +1,6 @@
 // The period table, and behind it the order of two. The contracts cite Orders and Answers of specs/.
+#![tactic(auto)]
+
 ghost use Rattle.std.specs.Prelude.{◌≡◌};
 ghost use Rattle.periods.specs.Answers.{Periods, number_of, period_of};
 

@@ -1,4 +1,6 @@
 // The period table against document 001's table 2, and at its edges.
+#![tactic(auto)]
+
 use periods::Lookup;
 
 // The number of the answer, and its period.

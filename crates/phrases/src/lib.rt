@@ -1,5 +1,7 @@
 // The phrases that both programs print, as text on lent bytes: numbers with the space behind them, and refusals. Each function answers the position
 // behind what it wrote. The contracts cite Phrases of specs/. None is an entry point: callers in other crates show that there is room.
+#![tactic(auto)]
+
 ghost use Rattle.std.specs.Prelude.{◌++◌, ◌+◌, ◌≤◌, length};
 ghost use Rattle.text.specs.Text.{decimal_of, signed_of};
 ghost use Rattle.phrases.specs.Phrases.{Piece, spaced, refused_text, placed_text};

@@ -1,4 +1,6 @@
 // The store of bursts as bytes: 32 places, one for each meter. This crate alone knows where a place stands and what stands in it. The contracts cite Places of specs/.
+#![tactic(auto)]
+
 ghost use Rattle.std.specs.Prelude.{◌≡◌, ◌+◌, ◌<◌, ◌≤◌, length};
 ghost use Rattle.records.specs.Block.{meters};
 ghost use Rattle.places.specs.Places.{place_size, place_at, count_of, held, is_place, is_store, burst, HasPlace};

@@ -1,6 +1,8 @@
 // read METER ORDINAL FIRST SECOND: the record of a meter with that ordinal, out of the first antenna's block or the second's. Prints one line:
 // antenna, bit count and the payload in hexadecimal, or "refused N", with " at P" where there is a place. It only reads, calls and writes: what it
 // prints is `read_text::print` of its arguments and its files. Where one cannot be used, it says so on standard error and prints nothing.
+#![tactic(auto)]
+
 use libc::{STDERR_FILENO, STDOUT_FILENO};
 
 // One byte more than the longest block, so that a longer file is seen and refused, and not cut.

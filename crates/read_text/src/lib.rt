@@ -1,5 +1,7 @@
 // All that the program `read` prints, from the text of its two numbers and the bytes of its two blocks, as text on lent bytes. The contracts cite
 // Prints of specs/; that a length is inside the bytes is said besides, so that a caller may lend `&out[..n]`.
+#![tactic(auto)]
+
 ghost use Rattle.io.specs.Counts.{IsPrefixLen};
 ghost use Rattle.text.specs.Text.{Writes};
 ghost use Rattle.read_text.specs.Prints.{Whole, Prints, Within};

@@ -1,5 +1,7 @@
 // The line that the program `read` prints for one question, as text on lent bytes. The contracts cite Line of specs/; that the length is inside
 // the bytes is said besides, so that callers may lend `&out[..n]`.
+#![tactic(auto)]
+
 ghost use Rattle.std.specs.Prelude.{◌≡◌, ◌+◌, ◌*◌, ◌<◌, ◌≤◌, length};
 ghost use Rattle.io.specs.Counts.{IsPrefixLen};
 ghost use Rattle.text.specs.Text.{Wrote, Writes};

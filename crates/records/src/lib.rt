@@ -1,5 +1,7 @@
 // The record block: the record at a position, and the form of a whole block. Everything that reads blocks goes through `record_at`.
 // The contracts cite Block of specs/.
+#![tactic(auto)]
+
 ghost use Rattle.std.specs.Prelude.{◌≡◌, ◌+◌, ◌<◌, ◌≤◌, length};
 ghost use Rattle.records.specs.Block.{header_size, two_bytes, judged, head_at, form_of, number_of, place_of};
 

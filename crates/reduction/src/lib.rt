@@ -1,5 +1,7 @@
 // The reduced basis: among all pairs that fit the first bits of a burst, the least with q odd, carried along bit by bit with no division.
 // `start` and one `turn` for each bit; `search` does so for the first n bits. The contracts cite Vectors and Reduced of specs/.
+#![tactic(auto)]
+
 ghost use Rattle.std.specs.Prelude.{◌≡◌, ◌^◌, ◌≤◌, pos};
 ghost use Rattle.integers.specs.Numbers.{half_z};
 ghost use Rattle.reduction.specs.Vectors.{vect, plus, minus, off, twice, rest, Within};

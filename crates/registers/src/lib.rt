@@ -1,4 +1,6 @@
 // The register: step, load, read back. The contracts cite Registers and Answers of specs/.
+#![tactic(auto)]
+
 ghost use Rattle.std.specs.Prelude.{◌≡◌, ◌+◌, ◌-◌, ◌*◌, ◌/◌, ◌%◌, ◌^◌, ◌≤◌, ◌<◌, nat_abs};
 ghost use Rattle.integers.specs.Numbers.{Decides};
 ghost use Rattle.registers.specs.Registers.{Valid, next_of, num_of};

@@ -1,6 +1,8 @@
 // Runs loading, stepping, reading back and the sheet, by the cases on standard input. tests/vectors/registers.py writes them and what is expected.
 //
 // A case: its name; p, q, cells and memory. The pair (p, q) is loaded, and the register (q, cells, memory) goes to every entry point that takes one.
+#![tactic(auto)]
+
 use registers::{Loaded, ReadBack, Register, Stepped};
 use storage::StorageSheet;
 

@@ -1,4 +1,6 @@
 // The room of a block's records in the store. The contract cites Rooms of specs/, and Places of the crate `places`.
+#![tactic(auto)]
+
 ghost use Rattle.std.specs.Prelude.{◌≡◌, true};
 ghost use Rattle.records.specs.Block.{parse};
 ghost use Rattle.places.specs.Places.{is_store, bits_of};

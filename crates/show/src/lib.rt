@@ -1,5 +1,7 @@
 // Printing for programs: what they share. No contract can say what is written. What is computed for it has one: the text of a signed number is that of `text`, and
 // `checksum` cites Checksums of specs/.
+#![tactic(auto)]
+
 ghost use Rattle.std.specs.Prelude.{◌≡◌};
 ghost use Rattle.show.specs.Checksums.{checksum_of};
 

@@ -1,4 +1,6 @@
 // The storage sheet of a register: the cells and the memory bits that a meter must have for it. The contract cites Storage of specs/.
+#![tactic(auto)]
+
 ghost use Rattle.std.specs.Prelude.{◌≡◌, ◌^◌, ◌<◌};
 ghost use Rattle.std.specs.Int.Signed.{mag};
 ghost use Rattle.integers.specs.Numbers.{Least};

@@ -1,4 +1,6 @@
 // Taking a block into the store of bursts, whole or not at all. The contracts cite Taking of specs/, and Places of the crate `places`.
+#![tactic(auto)]
+
 ghost use Rattle.std.specs.Prelude.{◌≡◌, true};
 ghost use Rattle.records.specs.Block.{parse};
 ghost use Rattle.places.specs.Places.{is_store, bits_of, encode_all};

@@ -2,6 +2,8 @@
 //
 // A case: the bytes of the store that are changed beforehand, so that it is fresh again, or broken; a name; a block. After the cases, whose number comes
 // first, there are one of a store that lacks a byte and one of a store with a byte too many.
+#![tactic(auto)]
+
 
 // Each meter that has bits, and how many.
 fn print_counts(places: &[u8]) {

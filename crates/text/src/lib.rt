@@ -1,5 +1,7 @@
 // Text on lent bytes, in ASCII: each function writes at a position and answers the position after it, so that a line is written piece by piece.
 // The contracts cite Text of specs/. None is an entry point: callers in other crates show that there is room.
+#![tactic(auto)]
+
 ghost use Rattle.std.specs.Prelude.{◌+◌, ◌≤◌, length};
 ghost use Rattle.text.specs.Text.{Wrote, decimal_of, signed_of};
 

@@ -3,6 +3,8 @@
 // No state is stepped. A register walks as its numerator does: outside -q .. 0 the distance to it at least halves with each step, so that
 // the lead-in takes at most some 61 turns on a number; from inside, as many steps come round as the order of two modulo the
 // denominator in lowest terms.
+#![tactic(auto)]
+
 ghost use Rattle.std.specs.Prelude.{◌≡◌, ◌%◌, ◌^◌, ◌≤◌, ◌<◌, nat_abs};
 ghost use Rattle.registers.specs.Registers.{Valid};
 ghost use Rattle.walking.specs.Walks.{Loops, states_of, Walks, number_of, lead_in_of, period_of, sum_of};

@@ -2,6 +2,8 @@
 // what is expected.
 //
 // A case: its name; q, cells and memory; the allowance.
+#![tactic(auto)]
+
 use registers::Register;
 use walking::Walked;
 

@@ -1,4 +1,6 @@
 // Whitening: bytes combined with what a register emits. The contracts cite Whitening of specs/.
+#![tactic(auto)]
+
 ghost use Rattle.std.specs.Prelude.{◌≡◌, ◌+◌, ◌*◌, ◌/◌, ◌%◌, ◌^◌, ◌≤◌, ◌<◌, nat_abs, length};
 ghost use Rattle.registers.specs.Registers.{Valid, iter_of};
 ghost use Rattle.registers.specs.declared.Register.{Register};

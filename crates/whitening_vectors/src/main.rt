@@ -1,6 +1,8 @@
 // Runs whitening over the cases on standard input. tests/vectors/whitening.py writes them and what is expected.
 //
 // A case: its name; the bytes; q, cells and memory.
+#![tactic(auto)]
+
 use registers::Register;
 
 // Prints the refusal, the register afterwards, and a checksum of the bytes afterwards.
