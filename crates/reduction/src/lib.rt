@@ -10,7 +10,7 @@ ghost use Rattle.reduction.specs.Reduced.{big, Pick, Turned, Started, After};
 pub mod order; // order.rt: which of two pairs stands first
 
 // A pair with its rest: p = A q + 2^k rest, A the value of the first k bits.
-#[derive(Drop)]
+#[derive(Clone, Copy)]
 pub struct Vector {
     pub p: i64,
     pub q: i64,
@@ -18,7 +18,7 @@ pub struct Vector {
 }
 
 // f has q even, g has q odd, and together they span every pair that fits.
-#[derive(Drop)]
+#[derive(Clone, Copy)]
 pub struct State {
     pub f: Vector,
     pub g: Vector,
