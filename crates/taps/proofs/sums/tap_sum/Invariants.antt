@@ -1,0 +1,11 @@
+-- `taps::sums::tap_sum` meets its contract: after k turns the sum is that over the first k taps, and at most k.
+use mathlib.Core.Path.{◌≡◌}
+use Prim.Native.Nat.{◌-◌, ◌≤◌}
+use Rattle.taps.specs.Sums.{taps_to}
+use Rattle.taps.proofs.sums.tap_sum.Given as goal
+
+abbrev pub invariant-loop-k : goal.invariant-loop-k
+invariant-loop-k l = (l.k ≤ l.r) × (l.sum ≤ l.k) × (l.sum ≡ taps_to l.q l.cells l.r l.k)
+
+abbrev pub decreases-loop-k : goal.decreases-loop-k
+decreases-loop-k l = l.r - l.k
