@@ -9,7 +9,7 @@ ghost use Rattle.antennas.specs.Antennas.{Asked, Read, Part, Lies, read_number, 
 ghost use Rattle.antennas.specs.Search.{Sought};
 
 // What is told of a record: its bits, the antenna that it came from, and where its bytes stand in that antenna's block.
-#[derive(Drop)]
+#[derive(Clone, Copy)]
 pub struct Seen {
     pub count: usize,
     pub antenna: u32,
@@ -18,7 +18,7 @@ pub struct Seen {
 }
 
 // A block's refusal has its place; the two refusals of the question itself have none.
-#[derive(Drop)]
+#[derive(Clone, Copy)]
 pub enum About {
     Found(Seen),
     Malformed(records::Refusal),

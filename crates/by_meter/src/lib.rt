@@ -4,7 +4,7 @@
 ghost use Rattle.by_meter.specs.ByMeter.{LearnsMeter, meter_number, meter_p, meter_q};
 
 // The fraction of a meter's burst, or refusal 10, 14 or 3.
-#[derive(Drop)]
+#[derive(Clone, Copy)]
 pub enum ByMeter {
     Answer(fractions::Fraction),
     NotAStore,

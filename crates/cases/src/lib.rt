@@ -9,7 +9,7 @@ ghost use Rattle.bits.specs.Bits.{window};
 ghost use Rattle.cases.specs.Cases.{Put, twos_complement};
 
 // Where bytes were put, and how many.
-#[derive(Drop)]
+#[derive(Clone, Copy)]
 pub struct Changed {
     pub at: usize,
     pub count: usize,

@@ -9,7 +9,7 @@ use registers::Register;
 
 // A pair, learned or read back.
 #[repr(C)]
-#[derive(Drop)]
+#[derive(Clone, Copy)]
 pub struct Fraction {
     pub refusal: u32,
     pub p: i32,
@@ -18,7 +18,7 @@ pub struct Fraction {
 
 // A loaded register.
 #[repr(C)]
-#[derive(Drop)]
+#[derive(Clone, Copy)]
 pub struct Loaded {
     pub refusal: u32,
     pub state: Register,
@@ -26,7 +26,7 @@ pub struct Loaded {
 
 // The emitted bit, and the register after the step.
 #[repr(C)]
-#[derive(Drop)]
+#[derive(Clone, Copy)]
 pub struct Stepped {
     pub refusal: u32,
     pub bit: u32,
@@ -35,7 +35,7 @@ pub struct Stepped {
 
 // Lead-in, period, and the two together.
 #[repr(C)]
-#[derive(Drop)]
+#[derive(Clone, Copy)]
 pub struct Walked {
     pub refusal: u32,
     pub lead: u32,
@@ -45,7 +45,7 @@ pub struct Walked {
 
 // The storage that a register needs.
 #[repr(C)]
-#[derive(Drop)]
+#[derive(Clone, Copy)]
 pub struct Storage {
     pub refusal: u32,
     pub cells: u32,
@@ -54,7 +54,7 @@ pub struct Storage {
 
 // An entry of the period table.
 #[repr(C)]
-#[derive(Drop)]
+#[derive(Clone, Copy)]
 pub struct Entry {
     pub refusal: u32,
     pub period: u32,
@@ -62,7 +62,7 @@ pub struct Entry {
 
 // The first 64 bits that a pair gives.
 #[repr(C)]
-#[derive(Drop)]
+#[derive(Clone, Copy)]
 pub struct Word {
     pub refusal: u32,
     pub word: u64,
@@ -70,7 +70,7 @@ pub struct Word {
 
 // How a block was taken.
 #[repr(C)]
-#[derive(Drop)]
+#[derive(Clone, Copy)]
 pub struct Taken {
     pub refusal: u32,
     pub place: u32,
@@ -78,7 +78,7 @@ pub struct Taken {
 
 // A record of two antennas' blocks: its bits, its antenna, and the part of that antenna's block that holds them.
 #[repr(C)]
-#[derive(Drop)]
+#[derive(Clone, Copy)]
 pub struct Read {
     pub refusal: u32,
     pub place: u32,

@@ -16,21 +16,21 @@ const MOST: i32 = LIMIT as i32;
 const LEAST: i32 = -MOST;
 
 // 32 bits for p and q: the limits leave two bits spare, and the firmware that calls has 32-bit words.
-#[derive(Drop)]
+#[derive(Clone, Copy)]
 pub struct Fraction {
     pub p: i32,
     pub q: u32,
 }
 
 // A fraction on its way to the limits: numerators of registers, and sums, are wider than the pairs that they reduce to.
-#[derive(Drop)]
+#[derive(Clone, Copy)]
 pub struct Ratio {
     pub p: i64,
     pub q: u64,
 }
 
 // The output word, or refusal 4: the pair is outside the limits.
-#[derive(Drop)]
+#[derive(Clone, Copy)]
 pub enum Output {
     Word(u64),
     Outside,

@@ -4,7 +4,7 @@ ghost use Rattle.bits.specs.Bits.{value};
 ghost use Rattle.learning.specs.Steps.{Guess};
 
 // A remainder r and its cofactor t: t times the bits is r, or -r, modulo 2^61.
-#[derive(Drop)]
+#[derive(Clone, Copy)]
 pub struct Convergent {
     pub r: usize,
     pub t: usize,

@@ -19,7 +19,7 @@ const DECIDED: usize = 61;
 const LIMIT: usize = fractions::LIMIT as usize;
 
 // The fraction, or refusal 1, 2 or 3.
-#[derive(Drop)]
+#[derive(Clone, Copy)]
 pub enum Learned {
     Answer(fractions::Fraction),
     CountTooLarge,

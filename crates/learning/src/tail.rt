@@ -7,7 +7,7 @@ ghost use Rattle.integers.specs.Numbers.{Decides, Divides};
 ghost use Rattle.learning.specs.Learning.{longest};
 
 // What is left of p: p = A q + 2^i rest, A the value of the first i bits.
-#[derive(Drop)]
+#[derive(Clone, Copy)]
 struct Rest {
     pub rest: i64,
 }

@@ -11,7 +11,7 @@ mod table;
 const LAST: u32 = 1023;
 
 // A table entry, or refusal 4: the denominator is outside the table.
-#[derive(Drop)]
+#[derive(Clone, Copy)]
 pub enum Lookup {
     Period(u32),
     Outside,

@@ -12,7 +12,7 @@ use text::numerals;
 pub const TEXT: usize = reading::LINE + 1;
 
 // The length of what is printed, or which of the two numbers is none.
-#[derive(Drop)]
+#[derive(Clone, Copy)]
 pub enum Printed {
     Line(usize),
     NoMeter,

@@ -23,7 +23,7 @@ pub const RECORD_BITS: usize = 512;
 pub const BLOCK_BYTES: usize = 16384;
 
 // A record's fields, where its bits start, and where the next record starts.
-#[derive(Drop)]
+#[derive(Clone, Copy)]
 pub struct Record {
     pub meter: usize,
     pub count: usize,
@@ -32,7 +32,7 @@ pub struct Record {
 }
 
 // Why a block is refused for its form. Each case but the first has its place.
-#[derive(Drop)]
+#[derive(Clone, Copy)]
 pub enum Refusal {
     TooLong,
     ShortHeader(usize),
@@ -44,14 +44,14 @@ pub enum Refusal {
 }
 
 // What stands at a position.
-#[derive(Drop)]
+#[derive(Clone, Copy)]
 pub enum Head {
     Found(Record),
     Refused(Refusal),
     End,
 }
 
-#[derive(Drop)]
+#[derive(Clone, Copy)]
 pub enum Form {
     Sound,
     Refused(Refusal),

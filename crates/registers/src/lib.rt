@@ -15,7 +15,7 @@ use taps::{digits, memory, sums};
 
 // q, the cells a_0 to a_(r-1) as a number with a_0 lowest, and the memory. C's callers have the same struct.
 #[repr(C)]
-#[derive(Drop)]
+#[derive(Clone, Copy)]
 pub struct Register {
     pub q: u32,
     pub cells: u32,
@@ -23,14 +23,14 @@ pub struct Register {
 }
 
 // The emitted bit and the register after the step, or refusal 5 and the register as it was given.
-#[derive(Drop)]
+#[derive(Clone, Copy)]
 pub enum Stepped {
     Next(u32, Register),
     Invalid(Register),
 }
 
 // The loaded register, or refusal 4, the pair is outside the limits, or 8, the memory would be too wide.
-#[derive(Drop)]
+#[derive(Clone, Copy)]
 pub enum Loaded {
     Into(Register),
     Outside,
@@ -38,7 +38,7 @@ pub enum Loaded {
 }
 
 // The pair in lowest terms, or refusal 5, the register is not valid, or 7, the pair is outside the limits.
-#[derive(Drop)]
+#[derive(Clone, Copy)]
 pub enum ReadBack {
     Pair(Fraction),
     Invalid,
@@ -46,7 +46,7 @@ pub enum ReadBack {
 }
 
 // Cells and a memory that may still be too wide for a register.
-#[derive(Drop)]
+#[derive(Clone, Copy)]
 struct State {
     cells: u32,
     memory: i64,

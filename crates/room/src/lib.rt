@@ -7,7 +7,7 @@ ghost use Rattle.places.specs.Places.{is_store, bits_of};
 ghost use Rattle.room.specs.Rooms.{room_of};
 
 // Whether every record of a block has room, or where the first begins that has not.
-#[derive(Drop)]
+#[derive(Clone, Copy)]
 pub enum Room {
     Fits,
     Full(usize),

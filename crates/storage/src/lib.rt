@@ -11,7 +11,7 @@ use registers::Register;
 use taps::sums;
 
 // The number of cells and the bits of memory, or refusal 5.
-#[derive(Drop)]
+#[derive(Clone, Copy)]
 pub enum StorageSheet {
     Needs(u32, u32),
     Invalid,

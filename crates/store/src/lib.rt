@@ -9,7 +9,7 @@ ghost use Rattle.room.specs.declared.Room.TheVariants.{Fits};
 ghost use Rattle.store.specs.Taking.{append_all, take_of, number_of, place_of};
 
 // What taking a block answers: that it was taken and nothing more, or why not.
-#[derive(Drop)]
+#[derive(Clone, Copy)]
 pub enum Answer {
     Taken,
     NotAStore,

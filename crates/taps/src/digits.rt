@@ -7,7 +7,7 @@ use super::sums::power;
 use integers::signed::{half, odd};
 
 // The digits taken off so far, first digit lowest, and the numerator after them.
-#[derive(Drop)]
+#[derive(Clone, Copy)]
 pub struct Digits {
     pub bits: u32,
     pub rest: i64,

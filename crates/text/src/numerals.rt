@@ -5,7 +5,7 @@ ghost use Rattle.text.specs.Numerals.{Says};
 const LARGEST: usize = 4294967295;
 
 // What some bytes say: a number, or none.
-#[derive(Drop)]
+#[derive(Clone, Copy)]
 pub enum Number {
     Is(u32),
     No,

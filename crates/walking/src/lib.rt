@@ -13,7 +13,7 @@ ghost use Rattle.walking.specs.Inner.{dist, nearer, Enters};
 use registers::Register;
 
 // Lead-in, period and their sum; or refusal 5, the register is not valid, or 6, the sum exceeds the allowance.
-#[derive(Drop)]
+#[derive(Clone, Copy)]
 pub enum Walked {
     Loop(u32, u32, u32),
     Invalid,
@@ -21,7 +21,7 @@ pub enum Walked {
 }
 
 // Lead-in and period.
-#[derive(Drop)]
+#[derive(Clone, Copy)]
 struct Way {
     lead_in: u32,
     period: u32,

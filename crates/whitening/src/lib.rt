@@ -24,14 +24,14 @@ const WORD: u64 = 4294967296;
 const BYTE: u64 = 256;
 
 // The refusal, or 0, and the register afterwards.
-#[derive(Drop)]
+#[derive(Clone, Copy)]
 pub struct Whitened {
     pub refusal: u32,
     pub register: Register,
 }
 
 // The next digits, first digit lowest, and the numerator after them.
-#[derive(Drop)]
+#[derive(Clone, Copy)]
 struct Digits {
     bits: u64,
     next: u64,
