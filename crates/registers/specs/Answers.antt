@@ -7,7 +7,7 @@
 -- The functions over them give the number and the values of every case of each answer.
 use Rattle.std.specs.Prelude.{ℕ, ◌^◌, ◌≤◌, ◌<◌, ℤ, pos, nat_abs}
 use Rattle.fractions.specs.Pairs.{Inside, Lowest}
-use Rattle.registers.specs.Registers.{Valid, emitted, next_of, num_of, cell_count, Load}
+use Rattle.registers.specs.Registers.{Valid, emitted, next_of, num_of, Load}
 use Rattle.registers.specs.declared.Register.{Register}
 use Rattle.registers.specs.declared.Stepped.{Stepped}
 use Rattle.registers.specs.declared.Stepped.TheVariants as Step

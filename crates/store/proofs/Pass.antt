@@ -2,8 +2,8 @@
 use Rattle.places.specs.Places.{most_bits, place_size, store_size}
 use Prim.Native.Nat.{ℕ, ◌+◌, ◌*◌, ◌-◌, ◌^◌, ◌≤◌, ◌<◌}
 use mathlib.Core.Path.{◌≡◌, refl, sym, ap, ◌∙◌, subst}
-use mathlib.Core.Logic.{◌⊎◌, ⊎_elim}
-use mathlib.Core.List.{List, [], ◌∷◌, ◌++◌}
+use mathlib.Core.Logic.{⊎_elim}
+use mathlib.Core.List.{List, [], ◌++◌}
 use native.Mathlib.Omega.{arith}
 use lib.ListN.{length, take, drop, get_or, set, length-set, length-append}
 use lib.Seq.{get_or-set_same, get_or-set_other, length-take-le}
