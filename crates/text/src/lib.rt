@@ -12,8 +12,9 @@ pub fn word(out: &mut [u8], at: usize, word: &[u8]) -> usize
     requires { at + length word.now ≤ length out.old }
     ensures { Wrote out.old at word.now out.new result }
 {
-    let n = bytes::copy(word, &mut out[at..]);
-    at + n
+    let end = at + word.len();
+    out[at..end].copy_from_slice(word);
+    end
 }
 
 // Writes a number in decimal digits.
