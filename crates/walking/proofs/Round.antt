@@ -14,7 +14,7 @@ use lib.Pow.{pow_pos}
 use lib.IntN.{ℤ, pos, nat_abs, ◌+ℤ◌, ◌-ℤ◌, ◌*ℤ◌}
 use Rattle.integers.proofs.Finite.{le_or_gt}
 use Rattle.integers.proofs.Parts.{up, down, eq_of, nat_abs_is, nat_abs-*, pos-*, parts}
-use Rattle.integers.proofs.Coprime.{quot, euclid, lowest, two_cancel}
+use Rattle.integers.proofs.Coprime.{quot, euclid, two_cancel}
 use Rattle.integers.proofs.Modulo.{cong_of}
 use Rattle.integers.proofs.Equations.{eq_by, z-*, z_sub}
 use Rattle.integers.proofs.Ring.{◌⊕◌, ◌⊗◌, ◌⊖◌, ring6, ◌≔◌}
