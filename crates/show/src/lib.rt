@@ -5,16 +5,16 @@
 ghost use Rattle.std.specs.Prelude.{◌≡◌};
 ghost use Rattle.show.specs.Checksums.{checksum_of};
 
-use libc::STDOUT_FILENO;
+const STDOUT: i32 = 1;
 
 const MODULUS: usize = 65521;
 
 pub fn word(bytes: &[u8]) {
-    io::write_all(STDOUT_FILENO, bytes);
+    io::write_all(STDOUT, bytes);
 }
 
 pub fn number(n: u64) {
-    io::print_decimal(STDOUT_FILENO, n);
+    io::print_decimal(STDOUT, n);
 }
 
 // A space, then the number.
