@@ -4,7 +4,6 @@
 // first, there are one of a store that lacks a byte and one of a store with a byte too many.
 #![tactic(auto)]
 
-
 // Each meter that has bits, and how many.
 fn print_counts(places: &[u8]) {
     let mut k = 0;
