@@ -3,7 +3,12 @@
 // prints is `read_text::print` of its arguments and its files. Where one cannot be used, it says so on standard error and prints nothing.
 #![tactic(auto)]
 
-use libc::{STDERR_FILENO, STDOUT_FILENO};
+ghost use Rattle.std.specs.Prelude.{◌≤◌, length, IfOk, IfSome};
+
+use std::env::{Env, FillError};
+use std::fs::File;
+use std::io::{Read, Write};
+use std::{io, str};
 
 // One byte more than the longest block, so that a longer file is seen and refused, and not cut.
 const MOST: usize = records::BLOCK_BYTES + 1;
@@ -11,105 +16,144 @@ const MOST: usize = records::BLOCK_BYTES + 1;
 // The most digits of an argument.
 const DIGITS: usize = 32;
 
-fn open(path: &[u8]) -> i32 {
-    let fd = os::open_read(path);
-    if fd < 0 {
-        io::write_all(STDERR_FILENO, b"read: this block cannot be opened: ");
-        os::fail(path);
+// The most bytes of a path.
+const PATH: usize = 4096;
+
+const CANNOT_OPEN: &str = "read: this block cannot be opened: ";
+
+const CANNOT_READ: &str = "read: this block cannot be read: ";
+
+// Reads until the bytes are full or the input ends, and answers how many were read.
+fn fill<R: Read>(input: &mut R, out: &mut [u8]) -> io::Result<usize>
+    ensures { IfOk result (λ n. n ≤ length out.new) }
+{
+    let mut done = 0;
+    while done < out.len() {
+        let n = input.read(&mut out[done..])?;
+        if n == 0 {
+            break;
+        }
+        done += n;
     }
-    fd
+    Ok(done)
 }
 
-// Whether reading fails. A read that failed before looks like the end of the file: one more tells the two apart.
-fn is_broken(fd: i32) -> bool {
-    let mut more = [0u8; 1];
-    libc::read(fd, &mut more) < 0
+// Whether there is an argument of this number.
+fn is_given(rt: &HostRuntime, number: usize) -> bool {
+    let mut none = [0u8; 0];
+    match rt.arg(number, &mut none) {
+        Err(FillError::NotPresent) => false,
+        _ => true,
+    }
 }
 
-fn say_broken(path: &[u8]) {
-    io::write_all(STDERR_FILENO, b"read: this block cannot be read: ");
-    os::fail(path);
+// An argument's bytes, put at the start of `out`, and how many there are; none where it does not fit there.
+fn argument(rt: &HostRuntime, number: usize, out: &mut [u8]) -> Option<usize>
+    ensures { IfSome result (λ n. n ≤ length out.new) }
+{
+    match rt.arg(number, out) {
+        Ok(n) => Some(n),
+        Err(_) => None,
+    }
 }
 
-fn say_no_number(name: &[u8]) {
-    io::write_all(STDERR_FILENO, b"read: ");
-    io::write_all(STDERR_FILENO, name);
-    io::write_all(
-        STDERR_FILENO,
-        b" is to be a number from 0 to 4294967295, in decimal digits\n",
-    );
+fn say(rt: &HostRuntime, sentence: &str) -> io::Result<()> {
+    rt.stderr().write_all(sentence.as_bytes())
 }
 
-// An argument of more digits counts as none at all: `os::arg` answers 0 for it.
-fn print<'a>(first: &'a [u8], second: &'a [u8]) {
+// The system's words for an error, without the number behind them.
+fn words_of(message: &str) -> &str {
+    match message.find(" (os error ") {
+        Some(end) => message.get(..end).unwrap_or(message),
+        None => message,
+    }
+}
+
+// What is said of a path, and why.
+fn say_of_path(rt: &HostRuntime, sentence: &str, path: &[u8], error: io::Error) -> io::Result<()> {
+    let message = format!(in rt.alloc(); "{error}")?;
+    let mut said = rt.stderr();
+    said.write_all(sentence.as_bytes())?;
+    said.write_all(path)?;
+    said.write_all(b": ")?;
+    said.write_all(words_of(message.as_str()).as_bytes())?;
+    said.write_all(b"\n")
+}
+
+fn say_no_number(rt: &HostRuntime, name: &str) -> io::Result<()> {
+    say(rt, "read: ")?;
+    say(rt, name)?;
+    say(
+        rt,
+        " is to be a number from 0 to 4294967295, in decimal digits\n",
+    )
+}
+
+fn say_cut(rt: &HostRuntime, name: &str) -> io::Result<()> {
+    say(rt, "read: the path of ")?;
+    say(rt, name)?;
+    say(rt, " is longer than 4095 bytes\n")
+}
+
+// Opens a block. A path that is no UTF-8 names no file here.
+fn open(rt: &HostRuntime, path: &[u8]) -> io::Result<File> {
+    let Ok(text) = str::from_utf8(path) else {
+        return Err(io::Error::from(io::ErrorKind::InvalidInput));
+    };
+    File::open(rt, text)
+}
+
+// An argument of more digits counts as none at all.
+fn print(rt: &HostRuntime, first: &[u8], second: &[u8]) -> io::Result<()> {
     let mut meter = [0u8; DIGITS];
-    let m = os::arg(1, &mut meter);
+    let m = argument(rt, 1, &mut meter).unwrap_or(0);
     let mut ordinal = [0u8; DIGITS];
-    let o = os::arg(2, &mut ordinal);
+    let o = argument(rt, 2, &mut ordinal).unwrap_or(0);
     let mut out = [0u8; read_text::TEXT];
     match read_text::print(&meter[..m], &ordinal[..o], first, second, &mut out) {
         read_text::Printed::Line(n) => {
-            io::write_all(STDOUT_FILENO, &out[..n]);
+            let mut output = rt.stdout();
+            output.write_all(&out[..n])?;
+            output.flush()
         }
-        read_text::Printed::NoMeter => say_no_number(b"METER"),
-        read_text::Printed::NoOrdinal => say_no_number(b"ORDINAL"),
+        read_text::Printed::NoMeter => say_no_number(rt, "METER"),
+        read_text::Printed::NoOrdinal => say_no_number(rt, "ORDINAL"),
     }
 }
 
-fn answer(first_path: &[u8], second_path: &[u8]) {
-    let one = open(first_path);
-    if one < 0 {
-        return;
-    }
-    let two = open(second_path);
-    if two < 0 {
-        return;
-    }
+fn answer(rt: &HostRuntime, first_path: &[u8], second_path: &[u8]) -> io::Result<()> {
+    let mut one = match open(rt, first_path) {
+        Ok(file) => file,
+        Err(e) => return say_of_path(rt, CANNOT_OPEN, first_path, e),
+    };
+    let mut two = match open(rt, second_path) {
+        Ok(file) => file,
+        Err(e) => return say_of_path(rt, CANNOT_OPEN, second_path, e),
+    };
     let mut first = [0u8; MOST];
+    let n = match fill(&mut one, &mut first) {
+        Ok(n) => n,
+        Err(e) => return say_of_path(rt, CANNOT_READ, first_path, e),
+    };
     let mut second = [0u8; MOST];
-    let n = io::read_full(one, &mut first);
-    if is_broken(one) {
-        say_broken(first_path);
-        return;
-    }
-    let m = io::read_full(two, &mut second);
-    if is_broken(two) {
-        say_broken(second_path);
-        return;
-    }
-    print(&first[..n], &second[..m]);
+    let m = match fill(&mut two, &mut second) {
+        Ok(m) => m,
+        Err(e) => return say_of_path(rt, CANNOT_READ, second_path, e),
+    };
+    print(rt, &first[..n], &second[..m])
 }
 
-// Whether the argument that was just taken was longer than the bytes that it was to be put in.
-fn is_cut() -> bool {
-    os::errno() == libc::ENAMETOOLONG
-}
-
-fn say_cut(name: &[u8]) {
-    io::write_all(STDERR_FILENO, b"read: the path of ");
-    io::write_all(STDERR_FILENO, name);
-    io::write_all(STDERR_FILENO, b" is longer than 4095 bytes\n");
-}
-
-fn main() {
-    if os::arg_count() != 5 {
-        io::write_all(
-            STDERR_FILENO,
-            b"usage: cocklejoist read METER ORDINAL FIRST SECOND\n",
-        );
-        return;
+fn main(rt: HostRuntime) -> io::Result<()> {
+    if !is_given(&rt, 4) || is_given(&rt, 5) {
+        return say(&rt, "usage: cocklejoist read METER ORDINAL FIRST SECOND\n");
     }
-    let mut first = io::buffer();
-    let n = os::arg(3, &mut first);
-    if is_cut() {
-        say_cut(b"FIRST");
-        return;
-    }
-    let mut second = io::buffer();
-    let m = os::arg(4, &mut second);
-    if is_cut() {
-        say_cut(b"SECOND");
-        return;
-    }
-    answer(&first[..n], &second[..m]);
+    let mut first = [0u8; PATH];
+    let Some(n) = argument(&rt, 3, &mut first) else {
+        return say_cut(&rt, "FIRST");
+    };
+    let mut second = [0u8; PATH];
+    let Some(m) = argument(&rt, 4, &mut second) else {
+        return say_cut(&rt, "SECOND");
+    };
+    answer(&rt, &first[..n], &second[..m])
 }
