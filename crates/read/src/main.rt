@@ -3,11 +3,11 @@
 // prints is `read_text::print` of its arguments and its files. Where one cannot be used, it says so on standard error and prints nothing.
 #![tactic(auto)]
 
-ghost use Rattle.std.specs.Prelude.{◌≤◌, length, IfOk, IfSome};
+ghost use Rattle.std.specs.Prelude.{◌≤◌, length, IfSome};
 
 use std::env::{Env, FillError};
 use std::fs::File;
-use std::io::{Read, Write};
+use std::io::{Cursor, Read, Write};
 use std::{io, str};
 
 // One byte more than the longest block, so that a longer file is seen and refused, and not cut.
@@ -19,23 +19,36 @@ const DIGITS: usize = 32;
 // The most bytes of a path.
 const PATH: usize = 4096;
 
+// The most bytes of the system's words for an error.
+const MESSAGE: usize = 320;
+
 const CANNOT_OPEN: &str = "read: this block cannot be opened: ";
 
 const CANNOT_READ: &str = "read: this block cannot be read: ";
 
-// Reads until the bytes are full or the input ends, and answers how many were read.
-fn fill<R: Read>(input: &mut R, out: &mut [u8]) -> io::Result<usize>
-    ensures { IfOk result (λ n. n ≤ length out.new) }
+// Reads until the bytes are full, the input ends or a read fails, and answers how many were read.
+fn fill<R: Read>(input: &mut R, out: &mut [u8]) -> usize
+    ensures { result ≤ length out.new }
 {
     let mut done = 0;
     while done < out.len() {
-        let n = input.read(&mut out[done..])?;
-        if n == 0 {
-            break;
+        match input.read(&mut out[done..]) {
+            Ok(n) => {
+                if n == 0 {
+                    break;
+                }
+                done += n;
+            }
+            Err(_) => break,
         }
-        done += n;
     }
-    Ok(done)
+    done
+}
+
+// Why reading fails, if it does. A read that failed before looks like the end of the input: one more tells the two apart.
+fn failure<R: Read>(input: &mut R) -> Option<io::Error> {
+    let mut more = [0u8; 1];
+    input.read(&mut more).err()
 }
 
 // Whether there is an argument of this number.
@@ -69,15 +82,22 @@ fn words_of(message: &str) -> &str {
     }
 }
 
-// What is said of a path, and why.
+// Says of an error why there is no block.
+fn say_why(rt: &HostRuntime, error: io::Error) -> io::Result<()> {
+    let mut message = Cursor::new([0u8; MESSAGE]);
+    write!(message, "{error}")?;
+    let end = usize::try_from(message.position()).unwrap_or(0);
+    let bytes = message.into_inner();
+    let text = str::from_utf8(bytes.get(..end).unwrap_or(&[])).unwrap_or("");
+    say(rt, words_of(text))
+}
+
 fn say_of_path(rt: &HostRuntime, sentence: &str, path: &[u8], error: io::Error) -> io::Result<()> {
-    let message = format!(in rt.alloc(); "{error}")?;
-    let mut said = rt.stderr();
-    said.write_all(sentence.as_bytes())?;
-    said.write_all(path)?;
-    said.write_all(b": ")?;
-    said.write_all(words_of(message.as_str()).as_bytes())?;
-    said.write_all(b"\n")
+    say(rt, sentence)?;
+    rt.stderr().write_all(path)?;
+    say(rt, ": ")?;
+    say_why(rt, error)?;
+    say(rt, "\n")
 }
 
 fn say_no_number(rt: &HostRuntime, name: &str) -> io::Result<()> {
@@ -131,15 +151,15 @@ fn answer(rt: &HostRuntime, first_path: &[u8], second_path: &[u8]) -> io::Result
         Err(e) => return say_of_path(rt, CANNOT_OPEN, second_path, e),
     };
     let mut first = [0u8; MOST];
-    let n = match fill(&mut one, &mut first) {
-        Ok(n) => n,
-        Err(e) => return say_of_path(rt, CANNOT_READ, first_path, e),
-    };
+    let n = fill(&mut one, &mut first);
+    if let Some(e) = failure(&mut one) {
+        return say_of_path(rt, CANNOT_READ, first_path, e);
+    }
     let mut second = [0u8; MOST];
-    let m = match fill(&mut two, &mut second) {
-        Ok(m) => m,
-        Err(e) => return say_of_path(rt, CANNOT_READ, second_path, e),
-    };
+    let m = fill(&mut two, &mut second);
+    if let Some(e) = failure(&mut two) {
+        return say_of_path(rt, CANNOT_READ, second_path, e);
+    }
     print(rt, &first[..n], &second[..m])
 }
 
