@@ -1,7 +1,7 @@
 -- Learning by meter number: the place's bytes are its burst, so what learning answers for them it answers for the burst.
 --
 --   meter_answer, meter_none   an answer, or a refusal, for the bytes of a place is one for the meter
---   meter_unique               two answers that meet the contract have the same numbers; learn-meter-unique: so they are the same answer
+--   meter_unique               two answers that meet the contract have the same numbers; learn_meter_unique: so they are the same answer
 --   meter_burst                the answer depends on the meter's burst alone
 use Prim.Native.Nat.{ℕ, ◌<◌}
 use mathlib.Core.Path.{◌≡◌, refl, ap, subst, subst₂}

@@ -8,7 +8,7 @@
 --   fits_digits             a pair fits a burst exactly when bit i is digit i, for each i below n
 --   digits_bit              bit i of the first n digits as one number is digit i
 --   outputs_bit             so bit i of the output word is digit i of the expansion
---   outputs_unique          two answers for the output word have the same numbers; output-unique: so they are the same answer
+--   outputs_unique          two answers for the output word have the same numbers; output_unique: so they are the same answer
 use Rattle.std.proofs.Common.{◌≡◌, ℕ, zero, suc, ◌+◌, ◌-◌, ◌*◌, ◌/◌, ◌%◌, ◌^◌, ◌<◌, ◌≤◌, ◌↔◌, List, ℤ, pos, negsuc, ◌-ℤ◌, ◌*ℤ◌, neg_ℤ, sym, refl, ap, ◌∙◌, subst, ap₂, inl, inr, mul-le-mul_right, pow-suc, zero-add, arith, pow_pos}
 use native.Mathlib.Nat.{add-mul-div_left, div-eq_of_lt}
 use Rattle.integers.specs.Numbers.{odd_z}

@@ -8,10 +8,10 @@
 --   one_undivided          nothing from 2 on divides 1
 --   Lowest, lowest         two numbers as d c and d k, with c and k coprime
 --   euclid                 what divides n x and is coprime to x divides n
---   coprime_one, -down     1 is coprime to all; what is coprime to m is coprime to the divisors of m
---   coprime_mul, -power    products and powers of what is coprime to x are coprime to x
+--   coprime_one, _down     1 is coprime to all; what is coprime to m is coprime to the divisors of m
+--   coprime_mul, _power    products and powers of what is coprime to x are coprime to x
 --   coprime_divides        two coprime numbers that divide n: so does their product
---   gcd_zero, -step        what recursion on the remainder shows; gcd-unique: the greatest common divisor is one number
+--   gcd_zero, _step        what recursion on the remainder shows; gcd_unique: the greatest common divisor is one number
 --   GcdParts, gcd_parts    divided by it two numbers are coprime
 --   two_cancel             factors of two cancel modulo an odd number
 use Rattle.std.proofs.Common.{◌≡◌, ℕ, zero, suc, ◌+◌, ◌*◌, ◌/◌, ◌%◌, ◌^◌, ◌<◌, ◌≤◌, sym, refl, ap, ◌∙◌, subst, mod-lt, mod-eq_of_lt, mul_assoc, mul_comm, one-mul, pow-suc, mul-one, arith}

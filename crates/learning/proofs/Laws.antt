@@ -1,6 +1,6 @@
 -- The laws of the contract alone, whatever the algorithm.
 --
---   learns_unique     two answers that meet the contract have the same numbers; learned-unique: so they are the same answer
+--   learns_unique     two answers that meet the contract have the same numbers; learned_unique: so they are the same answer
 --   learns_agree      bits past the count and extra bytes have no effect
 --   learned_itself    from 2 b + 1 bits of p/q in lowest terms, |p| and q below 2^b, the answer is p/q itself
 --   learned_lowest    the answer is in lowest terms

@@ -2,11 +2,11 @@
 --
 --   certified                     a multiple of T out of which no prime can be divided is T
 --   Lowering c t l r              r is t with some factors l divided out, and is a multiple of the order where t is
---   lowering_start, -step         on the way through them
---   lowered_none, -stuck          the end: l does not divide r, or 2^(r / l) is not 1
+--   lowering_start, _step         on the way through them
+--   lowered_none, _stuck          the end: l does not divide r, or 2^(r / l) is not 1
 --   Search c t m l                m is left to factor, with no factor below l; each prime is stuck at t, or divides m
---   search_start, -next, -lower   the turns of the search
---   search_one, -last             its end: m is 1, or a prime, which is divided out of t last
+--   search_start, _next, _lower   the turns of the search
+--   search_one, _last             its end: m is 1, or a prime, which is divided out of t last
 use mathlib.Core.Path.{◌≡◌, sym, ap, ◌∙◌, subst}
 use mathlib.Core.Logic.{◌⊎◌, inl, inr}
 use Prim.Native.Nat.{ℕ, zero, suc, ◌+◌, ◌*◌, ◌/◌, ◌%◌, ◌^◌, ◌≤◌, ◌<◌}

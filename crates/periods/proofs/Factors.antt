@@ -1,10 +1,10 @@
 -- A number with one factor divided out as often as may be.
 --
 --   Parted m l r                r is m with some factors l divided out
---   parted_start, -step, -end   on the way through them, and at the end: `Without`
+--   parted_start, _step, _end   on the way through them, and at the end: `Without`
 --   without_more                where l divides m, at least one l is divided out
---   without_divides, -some      r divides m, and is at least 1 where m is
---   without_less, -nearer       where l divides m, r is less than m, and nearer to l where l is at most m / l: trial division ends
+--   without_divides, _some      r divides m, and is at least 1 where m is
+--   without_less, _nearer       where l divides m, r is less than m, and nearer to l where l is at most m / l: trial division ends
 use mathlib.Core.Path.{◌≡◌, sym, ap, ◌∙◌}
 use Prim.Native.Nat.{ℕ, zero, suc, ◌-◌, ◌*◌, ◌/◌, ◌%◌, ◌^◌, ◌≤◌, ◌<◌}
 use native.Mathlib.Omega.{arith}

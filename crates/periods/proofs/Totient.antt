@@ -3,8 +3,8 @@
 --   Clean c m n            c = d m and n = N m, d and m coprime, and 2^N = 1 modulo d: m is left to factor
 --   clean_last             the end where m is like a prime, 2^(m - 1) = 1 modulo m
 --   Dividing c m n l       m is clean, has no factor below l, and is not like a prime
---   dividing_start, -next  the turns of the search that divide nothing out of m
---   dividing_clean, -down  those that divide an odd prime l out of it, whether what is left is like a prime or not
+--   dividing_start, _next  the turns of the search that divide nothing out of m
+--   dividing_clean, _down  those that divide an odd prime l out of it, whether what is left is like a prime or not
 --   dividing_end           the other end: m is 1, since each odd prime is like one
 --   decides_unit           the test for a number like a prime
 use mathlib.Core.Path.{◌≡◌, refl, sym, ap, ◌∙◌, subst, subst₂}

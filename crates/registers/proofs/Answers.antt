@@ -5,7 +5,7 @@
 --   steps_same, loads_same, reads_same
 --                    the same of the numbers that the relations are between
 --   load_emits       demand 2: the register loaded from a pair, stepped n times, emits the first n bits of p/q, for every n
---   load_exists      every pair inside the limits loads, and load-accepted, is not refused
+--   load_exists      every pair inside the limits loads, and load_accepted, is not refused
 --   loaded_valid     a loaded register is valid
 --   load_numerator   its numerator is p
 --   load_read_back   reading back a loaded pair gives its lowest terms, and is not refused

@@ -1,7 +1,7 @@
 -- Valid registers: their ranges, so that nothing wraps, and that they stay valid.
 --
 --   facts        what a valid register's numbers are, as code needs them
---   valid_next   a valid register stays valid after a step; valid-iter, after n
+--   valid_next   a valid register stays valid after a step; valid_iter, after n
 --   iter_q       q stays
 use mathlib.Core.Path.{◌≡◌, refl, ap}
 use mathlib.Core.Bool.{Bool, true, false}

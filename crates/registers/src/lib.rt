@@ -101,7 +101,7 @@ pub fn step(g: Register) -> Stepped
 }
 
 // The numerator y - m 2^r of a valid register. Not an entry point: its callers in other crates show that the register is valid.
-// By the law y-over the double sum y is cells q - overflow 2^r, which needs one loop and not two.
+// By the law y_over the double sum y is cells q - overflow 2^r, which needs one loop and not two.
 pub fn numerator(g: Register) -> i64
     requires { Valid g }
     ensures { result ≡ num_of g }

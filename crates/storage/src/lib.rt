@@ -48,7 +48,7 @@ fn signed_width(m: i32, k: u32) -> u32
     }
 }
 
-// The storage sheet: the cells, and the bits that hold the memory of this register now and after any number of steps (the law memory-fits).
+// The storage sheet: the cells, and the bits that hold the memory of this register now and after any number of steps (the law memory_fits).
 pub fn sheet(g: Register) -> StorageSheet
     ensures { Sheets g (sheet_number result) (sheet_cells result) (sheet_bits result) }
 {

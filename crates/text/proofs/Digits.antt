@@ -2,7 +2,7 @@
 --
 --   Spelt, spelt                     the digits of a number from the last to the first
 --   digits_are                       `io` writes a number's text
---   value_decimal                    a text's value is the number, so decimal-unique and signed-unique: two numbers with one text are one number
+--   value_decimal                    a text's value is the number, so decimal_unique and signed_unique: two numbers with one text are one number
 --   length_decimal, length_signed    how long a text can be
 --   Above, decimal_above, signed_above, field_unique   a field ends at its separator, since every byte of it is above that
 --   signed_below, signed_not_below   the text of a signed number, by its sign
