@@ -2,7 +2,7 @@
 #
 #     awk -v crates=DIRECTORY -f numbers.awk names SPEC.antt ..
 #
-# SPEC.antt .. are all specs of all crates. A case that a definition called numberOf, or ..Number, gives a number to and that names does not have fails,
+# SPEC.antt .. are all specs of all crates. A case that a definition called number_of, or .._number, gives a number to and that names does not have fails,
 # and so does a name whose places have different numbers, or have none.
 function fail(text) {
     print "numbers: " text > "/dev/stderr"
@@ -49,24 +49,24 @@ FILENAME == ARGV[1] {
 FNR == 1 { file = substr(FILENAME, length(crates) + 2); type = "" }
 
 # a definition, by cases or not
-/^[A-Za-z]+ ([A-Za-z.]+|\([A-Za-z.]+( [a-z]+)*\)) = [0-9]/ {
+/^[A-Za-z_]+ ([A-Za-z.]+|\([A-Za-z.]+( [a-z]+)*\)) = [0-9]/ {
     split($0, side, / = /)
     word = $1
     clause = word " " case_of(substr(side[1], length(word) + 2))
     found(clause, side[2])
-    if (word ~ /(^number|Number)/ && !((file " " clause) in named)) fail(file " numbers a case that the file names does not have: " clause)
+    if (word ~ /(^|_)number/ && !((file " " clause) in named)) fail(file " numbers a case that the file names does not have: " clause)
 }
-/^[A-Za-z]+ = [0-9]/ { split($0, side, / = /); found(side[1], side[2]) }
+/^[A-Za-z_]+ = [0-9]/ { split($0, side, / = /); found(side[1], side[2]) }
 
 # a record's bound, and the first number of a data type's case
 /^pub (record|data) / { type = $3; kind = $2 }
 /^[^ ]/ && !/^pub (record|data) / && !/^--/ { type = "" }
-type && kind == "record" && /^  pub [a-z-]+ : .* ≤ [0-9]+( \^ [0-9]+)?$/ {
+type && kind == "record" && /^  pub [a-z_-]+ : .* ≤ [0-9]+( \^ [0-9]+)?$/ {
     bound = $0
     sub(/^.* ≤ /, "", bound)
     found(type "." $2, bound)
 }
-type && kind == "data" && /^  [a-z-]+ : / && $0 ~ (" " type " ") {
+type && kind == "data" && /^  [a-z_-]+ : / && $0 ~ (" " type " ") {
     answer = $0
     sub("^.* " type " ", "", answer)
     while (answer != "" && answer !~ /^[0-9]/) if (!sub(/^[^ ]+ */, "", answer)) break

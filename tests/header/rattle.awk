@@ -1,4 +1,4 @@
-# What the library exports, as C declares it: each #[repr(C)] struct and each #[no_mangle] function of the Rattle sources, one to a line. A slice
+# What the library exports, as C declares it: each #[repr(C)] struct and each #[unsafe(no_mangle)] function of the Rattle sources, one to a line. A slice
 # is a pointer and a length, whose name is `len` where the function has one slice, and X_len for a slice X otherwise.
 #
 #     awk -f types.awk -f rattle.awk FILE.rt ..
@@ -18,6 +18,7 @@ function c_parameter(field,    name, type, changed) {
 }
 
 /^#\[repr\(C\)\]$/ { flat = 1; next }
+flat && /^#\[derive\(Clone, Copy\)\]$/ { next }
 flat && /^pub struct [A-Za-z]+ \{$/ { struct = $3; fields = ""; flat = 0; next }
 flat { fail("a struct is expected behind #[repr(C)]") }
 struct && /^    pub [a-z_]+: [A-Za-z0-9]+,$/ {
@@ -29,9 +30,9 @@ struct && /^    pub [a-z_]+: [A-Za-z0-9]+,$/ {
 struct && /^}$/ { print_struct(struct, fields); struct = ""; next }
 struct { fail("this field cannot be read: " $0) }
 
-/^#\[no_mangle\]$/ { exported = 1; next }
+/^#\[unsafe\(no_mangle\)\]$/ { exported = 1; next }
 exported {
-    if (!sub(/^pub extern "C" fn /, "fn ")) fail("a function of C is expected behind #[no_mangle]")
+    if (!sub(/^pub extern "C" fn /, "fn ")) fail("a function of C is expected behind #[unsafe(no_mangle)]")
     split_function($0)
     list = ""
     for (i = 1; i <= parameters; i++) list = list (i > 1 ? ", " : "") c_parameter(parameter[i])
