@@ -2,7 +2,7 @@
  * A concentrator's day in one page: a block of training bits comes in, meter 3's register is learned from them, and a payload
  * of meter 3 is unwhitened. A torn block comes in too, and is refused whole.
  *
- *     rt staticlib capi
+ *     tools/build capi
  *     cc -std=c99 -Iinclude examples/unwhiten.c target/staticlib/libcapi.a -o target/unwhiten && target/unwhiten
  */
 #include <stdio.h>

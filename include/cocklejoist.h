@@ -1,7 +1,7 @@
 /*
  * Cocklejoist: learning, running and unwhitening the feedback-with-carry shift registers of a meter series.
  *
- * A C interface to a proved library. Link the one archive target/staticlib/libcapi.a ("rt staticlib capi" writes it; x86-64
+ * A C interface to a proved library. Link the one archive target/staticlib/libcapi.a ("tools/build capi" writes it; x86-64
  * Linux). C99 or later, or C++.
  *
  * Words
