@@ -28,8 +28,9 @@ function found(place, text) {
     number[place] = value(text)
 }
 
-# the case that a clause is about: of '(A.NoRoom p)' and of 'A.NoRoom' it is NoRoom
+# the case that a clause is about: of '(A.NoRoom p)' and of 'A.NoRoom' it is NoRoom, and of 'number (Ok x)', which has a parameter before it, Ok
 function case_of(text) {
+    sub(/^[a-z_]+ \(/, "(", text)
     sub(/^\(/, "", text)
     sub(/[ )].*$/, "", text)
     sub(/^[A-Za-z]*\./, "", text)
@@ -49,7 +50,7 @@ FILENAME == ARGV[1] {
 FNR == 1 { file = substr(FILENAME, length(crates) + 2); type = "" }
 
 # a definition, by cases or not
-/^[A-Za-z_]+ ([A-Za-z.]+|\([A-Za-z.]+( [a-z]+)*\)) = [0-9]/ {
+/^[A-Za-z_]+ ([a-z_]+ )?([A-Za-z.]+|\([A-Za-z.]+( [a-z]+)*\)) = [0-9]/ {
     split($0, side, / = /)
     word = $1
     clause = word " " case_of(substr(side[1], length(word) + 2))

@@ -18,7 +18,7 @@ function c_parameter(field,    name, type, changed) {
 }
 
 /^#\[repr\(C\)\]$/ { flat = 1; next }
-flat && /^#\[derive\(Clone, Copy\)\]$/ { next }
+flat && /^#\[derive\(.*\)\]$/ { next }
 flat && /^pub struct [A-Za-z]+ \{$/ { struct = $3; fields = ""; flat = 0; next }
 flat { fail("a struct is expected behind #[repr(C)]") }
 struct && /^    pub [a-z_]+: [A-Za-z0-9]+,$/ {

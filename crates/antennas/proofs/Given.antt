@@ -6,33 +6,31 @@
 --   read_given     an answer with a record tells of one in the first block, as antenna 1, or in the second, as antenna 2
 --   given_inside   its stretch lies inside that block
 --   some_end ..    for `read_part`: the bytes of the part, where they end and where they lie, by the antenna
-use Prim.Native.Nat.{ℕ, ◌+◌, ◌-◌, ◌≤◌}
-use mathlib.Core.Path.{◌≡◌, refl, sym, ap, ◌∙◌}
+use Prim.Native.Nat.{ℕ, ◌+◌, ◌≤◌}
+use mathlib.Core.Path.{◌≡◌, refl, sym, ap, ◌∙◌, subst}
 use mathlib.Core.Bool.{Bool, true, false, cond}
 use mathlib.Core.Logic.{◌⊎◌, inl, inr, ⊎_elim}
 use mathlib.Core.List.{List, ◌∷◌}
 use native.Mathlib.Omega.{arith}
-use lib.ListN.{length, take, drop}
+use lib.ListN.{length}
 use lib.Dec.{eqb}
-use borrow.Author.Tests.{eq-eqb, ne_eqb}
 use Rattle.bits.specs.Bits.{num}
 use Rattle.bits.proofs.Numbers.{length_digits}
 use Rattle.records.specs.declared.Record.{Record}
-use Rattle.records.specs.declared.Form.TheVariants as F
 use Rattle.records.specs.Block.{bytes_for, payload, Entry, entry_of, parse, form_of}
 use Rattle.records.specs.Named.{named}
 use Rattle.records.proofs.Standing.{Stands}
 use Rattle.records.proofs.Blocks.{RecordsOf, done, next, parse_records, form_parts}
-use Rattle.records.proofs.Cond.{yes, no}
 use Rattle.antennas.specs.declared.Seen.{Seen}
-use Rattle.antennas.specs.declared.About.{About}
-use Rattle.antennas.specs.declared.About.TheVariants as A
-use Rattle.antennas.specs.Antennas.{IsMeter, Nth, seen_of, read_number, read_place, read_count, read_antenna, read_start, read_length, Asked, found, bad_meter, no_record, Reads, by_first, by_second, neither, Read, part_of, Address, behind, part_at}
+use Rattle.std.specs.Prelude.{Ok}
+use Rattle.antennas.specs.declared.Antenna.{Antenna}
+use Rattle.antennas.specs.declared.Antenna.TheVariants.{First, Second}
+use Rattle.antennas.specs.Antennas.{About, IsMeter, Nth, seen_of, of_antenna, read_number, read_place, read_count, read_antenna, read_start, read_length, Asked, found, bad_meter, no_record, Reads, by_first, by_second, neither, Read}
 use Rattle.antennas.specs.Search.{Sought, sought, fewer}
 use Rattle.antennas.proofs.Ordinals.{nth_cons, nth_none}
 
 -- ---- the answer of the search
-pub asked_sought : (antenna : ℕ) (block : List ℕ) (meter ordinal : ℕ) (r : About) → IsMeter meter → Sought antenna (named meter (parse block).records) ordinal r
+pub asked_sought : (antenna : Antenna) (block : List ℕ) (meter ordinal : ℕ) (r : About) → IsMeter meter → Sought antenna (named meter (parse block).records) ordinal r
     → Asked antenna block meter ordinal r (read_number r) (read_place r) (read_count r) (read_antenna r) (read_start r) (read_length r)
 asked_sought antenna block meter ordinal r m (sought n) = found m n
 asked_sought antenna block meter ordinal r m (fewer h) = no_record m (inl h)
@@ -54,29 +52,29 @@ named_stands block meter at es (next {es = fs} r s rs) n e k = go (eqb r.meter m
     go false j f = f n j
 
 -- ---- what an answer with a record says
-pub record Given (antenna : ℕ) (block : List ℕ) (meter ordinal : ℕ) (x : Seen) : Type 0 where
-  pub sound : form_of block ≡ F.Sound
+pub record Given (antenna : Antenna) (block : List ℕ) (meter ordinal : ℕ) (x : Seen) : Type 0 where
+  pub sound : form_of block ≡ Ok tt
   pub is_meter : IsMeter meter
   pub entry : Entry
   pub nth : Nth ordinal (named meter (parse block).records) entry
   pub seen : x ≡ seen_of antenna entry
 
-pub asked_given : {antenna : ℕ} {block : List ℕ} {meter ordinal : ℕ} {r : About} {refusal place count which start size : ℕ} → form_of block ≡ F.Sound
-    → Asked antenna block meter ordinal r refusal place count which start size → (x : Seen) → r ≡ A.Found x → Given antenna block meter ordinal x
+pub asked_given : {antenna : Antenna} {block : List ℕ} {meter ordinal : ℕ} {r : About} {refusal place count which start size : ℕ} → form_of block ≡ Ok tt
+    → Asked antenna block meter ordinal r refusal place count which start size → (x : Seen) → r ≡ Ok x → Given antenna block meter ordinal x
 asked_given s (found {e} m n) x q = record { sound = s; is_meter = m; entry = e; nth = n; seen = cc }
-asked_given s (bad_meter m) x q = absurd (let z : ◌≡◌ {A = ℕ} 0 1 = cc in omega arith)
-asked_given s (no_record m h) x q = absurd (let z : ◌≡◌ {A = ℕ} 0 1 = cc in omega arith)
+asked_given s (bad_meter m) x q = cc
+asked_given s (no_record m h) x q = cc
 
 abbrev pub GivenIn : List ℕ → List ℕ → ℕ → ℕ → Seen → Type 0
-GivenIn first second meter ordinal x = Given 1 first meter ordinal x ⊎ Given 2 second meter ordinal x
+GivenIn first second meter ordinal x = Given First first meter ordinal x ⊎ Given Second second meter ordinal x
 
 reads_given : {first second : List ℕ} {meter ordinal : ℕ} {r : About} {refusal place count which start size : ℕ}
-    → Reads first second meter ordinal r refusal place count which start size → (x : Seen) → r ≡ A.Found x → GivenIn first second meter ordinal x
+    → Reads first second meter ordinal r refusal place count which start size → (x : Seen) → r ≡ Ok x → GivenIn first second meter ordinal x
 reads_given (by_first s a) x q = inl (asked_given s a x q)
 reads_given (by_second t s a) x q = inr (asked_given s a x q)
-reads_given (neither t s) x q = absurd (let z : ◌≡◌ {A = ℕ} 0 1 = cc in omega arith)
+reads_given (neither t s) x q = cc
 
-pub read_given : (first second : List ℕ) (meter ordinal : ℕ) (x : Seen) → Read first second meter ordinal (A.Found x) → GivenIn first second meter ordinal x
+pub read_given : (first second : List ℕ) (meter ordinal : ℕ) (x : Seen) → Read first second meter ordinal (Ok x) → GivenIn first second meter ordinal x
 read_given first second meter ordinal x h = reads_given h x refl
 
 -- ---- its stretch
@@ -87,7 +85,7 @@ pub record Stretch (block : List ℕ) (e : Entry) (x : Seen) : Type 0 where
   pub length_is : x.length ≡ bytes_for x.count
   pub last : x.start + x.length ≡ standing.of.next
 
-module _ {antenna : ℕ} {block : List ℕ} {meter ordinal : ℕ} {x : Seen} (g : Given antenna block meter ordinal x) where
+module _ {antenna : Antenna} {block : List ℕ} {meter ordinal : ℕ} {x : Seen} (g : Given antenna block meter ordinal x) where
   pub given_standing : Standing block g.entry
   given_standing = named_stands block meter 0 (parse block).records (parse_records block (form_parts block g.sound).1) ordinal g.entry g.nth
 
@@ -114,32 +112,9 @@ module _ {antenna : ℕ} {block : List ℕ} {meter ordinal : ℕ} {x : Seen} (g 
   pub given_inside : x.start + x.length ≤ length block
   given_inside = let w = given_stretch in omega (arith, w.last, w.standing.stands.last)
 
--- ---- for the part: the two blocks told apart by the antenna
-module _ (first second : List ℕ) (meter ordinal : ℕ) (r : About) (h : Read first second meter ordinal r) (x : Seen) (q : r ≡ A.Found x) where
-  given : GivenIn first second meter ordinal x
-  given = reads_given h x q
-
-  pub some_end : (x.start + x.length ≤ length first) ⊎ (x.start + x.length ≤ length second)
-  some_end = ⊎_elim (λ g. inl (given_inside g)) (λ g. inr (given_inside g)) given
-
-  pub first_end : x.antenna ≡ 1 → x.start + x.length ≤ length first
-  first_end e = ⊎_elim (λ g. given_inside g) (λ g. absurd (omega (arith, given_antenna g))) given
-
-  pub second_end : (x.antenna ≡ 1 → ⊥) → x.start + x.length ≤ length second
-  second_end n = ⊎_elim (λ g. absurd (n (given_antenna g))) (λ g. given_inside g) given
-
-  same_part : (l : List ℕ) → take (x.start + x.length - x.start) (drop x.start l) ≡ take x.length (drop x.start l)
-  same_part l = let e : x.start + x.length - x.start ≡ x.length = omega arith in ap (λ (n : ℕ). take n (drop x.start l)) e
-
-  pub part_first : x.antenna ≡ 1 → take (x.start + x.length - x.start) (drop x.start first) ≡ part_of first second r
-  part_first e = same_part first ∙ ap (λ (l : List ℕ). take x.length (drop x.start l)) (sym (yes _ _ (eq-eqb x.antenna 1 e))) ∙ ap (part_of first second) (sym q)
-
-  pub part_second : (x.antenna ≡ 1 → ⊥) → take (x.start + x.length - x.start) (drop x.start second) ≡ part_of first second r
-  part_second n = same_part second ∙ ap (λ (l : List ℕ). take x.length (drop x.start l)) (sym (no _ _ (ne_eqb x.antenna 1 n))) ∙ ap (part_of first second) (sym q)
-
-module _ (a b : Address) (r : About) (x : Seen) (q : r ≡ A.Found x) where
-  pub at_first : x.antenna ≡ 1 → behind a x.start ≡ part_at a b r
-  at_first e = ap (λ (y : Address). behind y x.start) (sym (yes a b (eq-eqb x.antenna 1 e))) ∙ ap (part_at a b) (sym q)
-
-  pub at_second : (x.antenna ≡ 1 → ⊥) → behind b x.start ≡ part_at a b r
-  at_second n = ap (λ (y : Address). behind y x.start) (sym (no a b (ne_eqb x.antenna 1 n))) ∙ ap (part_at a b) (sym q)
+-- ---- for the part: it lies in the block of that antenna
+pub part_inside : {first second : List ℕ} {meter ordinal : ℕ} {r : About} {x : Seen} {a : Antenna} → Read first second meter ordinal r → r ≡ Ok x → x.antenna ≡ a
+    → x.start + x.length ≤ length (of_antenna a first second)
+part_inside {first} {second} {x = x} h q e =
+    let inside = λ (b : Antenna). x.start + x.length ≤ length (of_antenna b first second) in
+    ⊎_elim (λ g. subst inside (sym (given_antenna g) ∙ e) (given_inside g)) (λ g. subst inside (sym (given_antenna g) ∙ e) (given_inside g)) (reads_given h x q)

@@ -12,25 +12,21 @@ use mathlib.Core.List.{List}
 use native.Mathlib.Omega.{arith}
 use native.Mathlib.Decide.{dec_le}
 use lib.ListN.{length}
-use Rattle.records.specs.declared.Refusal.{Refusal}
-use Rattle.records.specs.declared.Form.{Form}
-use Rattle.records.specs.declared.Form.TheVariants as F
-use Rattle.records.specs.Block.{meters, Entry, parse, form_of}
+use Rattle.records.specs.Block.{meters, Entry, parse, Form, form_of}
 use Rattle.records.specs.Named.{named}
-use Rattle.antennas.specs.declared.About.{About}
-use Rattle.antennas.specs.declared.About.TheVariants as A
-use Rattle.antennas.specs.Antennas.{Nth, seen_of, read_number, read_place, read_count, read_antenna, read_start, read_length, Asked, found, bad_meter, no_record, Reads, by_first, by_second, neither, Read, part_of, Part, Address, part_at, Lies}
+use Rattle.std.specs.Prelude.{Ok, Err}
+use Rattle.antennas.specs.declared.Antenna.{Antenna}
+use Rattle.antennas.specs.declared.Antenna.TheVariants.{First, Second}
+use Rattle.antennas.specs.declared.Refusal.TheVariants.{Malformed, BadMeter, NoRecord}
+use Rattle.antennas.specs.Antennas.{About, Nth, seen_of, read_number, read_place, read_count, read_antenna, read_start, read_length, Asked, found, bad_meter, no_record, Reads, by_first, by_second, neither, Read, part_of, Part, Address, part_at, Lies}
 use Rattle.antennas.proofs.Ordinals.{nth_within, nth_unique, nth_exists}
-
-sound_refused : {b : Form} {x : Refusal} → b ≡ F.Sound → b ≡ F.Refused x → ⊥
-sound_refused p q = let z : ◌≡◌ {A = ℕ} 0 1 = cc in omega arith
 
 past_end : {n : ℕ} {es : List Entry} {e : Entry} → Nth n es e → (length es < n) ⊎ (n ≡ 0) → ⊥
 past_end k = let w = nth_within k in ⊎_elim (λ h. omega arith) (λ h. omega arith)
 
-module _ {antenna : ℕ} {block : List ℕ} {meter ordinal : ℕ} where
+module _ {antenna : Antenna} {block : List ℕ} {meter ordinal : ℕ} where
   pub asked_unique : {r t : About} {n p c a s l n' p' c' a' s' l' : ℕ} → Asked antenna block meter ordinal r n p c a s l → Asked antenna block meter ordinal t n' p' c' a' s' l' → r ≡ t
-  asked_unique (found m k) (found m' k') = ap (λ (e : Entry). A.Found (seen_of antenna e)) (nth_unique k k')
+  asked_unique (found m k) (found m' k') = ap (λ (e : Entry). Ok (seen_of antenna e)) (nth_unique k k')
   asked_unique (found m k) (bad_meter n) = absurd (n m)
   asked_unique (found m k) (no_record m' h) = absurd (past_end k h)
   asked_unique (bad_meter n) (found m k) = absurd (n m)
@@ -43,13 +39,13 @@ module _ {antenna : ℕ} {block : List ℕ} {meter ordinal : ℕ} where
 module _ {first second : List ℕ} {meter ordinal : ℕ} where
   pub reads_unique : {r t : About} {n p c a s l n' p' c' a' s' l' : ℕ} → Reads first second meter ordinal r n p c a s l → Reads first second meter ordinal t n' p' c' a' s' l' → r ≡ t
   reads_unique (by_first f k) (by_first f' k') = asked_unique k k'
-  reads_unique (by_first f k) (by_second f' g k') = absurd (sound_refused f f')
-  reads_unique (by_first f k) (neither f' g) = absurd (sound_refused f f')
-  reads_unique (by_second f g k) (by_first f' k') = absurd (sound_refused f' f)
+  reads_unique (by_first f k) (by_second f' g k') = cc
+  reads_unique (by_first f k) (neither f' g) = cc
+  reads_unique (by_second f g k) (by_first f' k') = cc
   reads_unique (by_second f g k) (by_second f' g' k') = asked_unique k k'
-  reads_unique (by_second f g k) (neither f' g') = absurd (sound_refused g g')
-  reads_unique (neither f g) (by_first f' k) = absurd (sound_refused f' f)
-  reads_unique (neither f g) (by_second f' g' k) = absurd (sound_refused g' g)
+  reads_unique (by_second f g k) (neither f' g') = cc
+  reads_unique (neither f g) (by_first f' k) = cc
+  reads_unique (neither f g) (by_second f' g' k) = cc
   reads_unique (neither {x = x} f g) (neither {x = y} f' g') = cc
 
 -- ---- the numbers are those of the answer
@@ -61,7 +57,7 @@ pub record NumbersOf (r : About) (refusal place count antenna start size : ℕ) 
   pub start_is : start ≡ read_start r
   pub length_is : size ≡ read_length r
 
-asked_numbers : {antenna : ℕ} {block : List ℕ} {meter ordinal : ℕ} {r : About} {n p c a s l : ℕ} → Asked antenna block meter ordinal r n p c a s l → NumbersOf r n p c a s l
+asked_numbers : {antenna : Antenna} {block : List ℕ} {meter ordinal : ℕ} {r : About} {n p c a s l : ℕ} → Asked antenna block meter ordinal r n p c a s l → NumbersOf r n p c a s l
 asked_numbers (found m k) = record { refusal_is = refl; place_is = refl; count_is = refl; antenna_is = refl; start_is = refl; length_is = refl }
 asked_numbers (bad_meter m) = record { refusal_is = refl; place_is = refl; count_is = refl; antenna_is = refl; start_is = refl; length_is = refl }
 asked_numbers (no_record m h) = record { refusal_is = refl; place_is = refl; count_is = refl; antenna_is = refl; start_is = refl; length_is = refl }
@@ -72,10 +68,10 @@ reads_numbers (by_second f g k) = asked_numbers k
 reads_numbers (neither f g) = record { refusal_is = refl; place_is = refl; count_is = refl; antenna_is = refl; start_is = refl; length_is = refl }
 
 -- ---- every question has an answer
-Answered : ℕ → List ℕ → ℕ → ℕ → Type 0
+Answered : Antenna → List ℕ → ℕ → ℕ → Type 0
 Answered antenna block meter ordinal = (r : About) × Asked antenna block meter ordinal r (read_number r) (read_place r) (read_count r) (read_antenna r) (read_start r) (read_length r)
 
-asked_exists : (antenna : ℕ) (block : List ℕ) (meter ordinal : ℕ) → Answered antenna block meter ordinal
+asked_exists : (antenna : Antenna) (block : List ℕ) (meter ordinal : ℕ) → Answered antenna block meter ordinal
 unfolding Answered
 asked_exists antenna block meter ordinal = go (dec_le 1 meter) (dec_le meter meters) (dec_le 1 ordinal) (dec_le ordinal (length es))
   where
@@ -83,20 +79,20 @@ asked_exists antenna block meter ordinal = go (dec_le 1 meter) (dec_le meter met
     es = named meter (parse block).records
 
     go : Dec (1 ≤ meter) → Dec (meter ≤ meters) → Dec (1 ≤ ordinal) → Dec (ordinal ≤ length es) → Answered antenna block meter ordinal
-    go (no l) h o e = (A.BadMeter, bad_meter (λ m. l m.0))
-    go (yes l) (no h) o e = (A.BadMeter, bad_meter (λ m. h m.1))
-    go (yes l) (yes h) (no o) e = (A.NoRecord, no_record (l, h) (inr (omega arith)))
-    go (yes l) (yes h) (yes o) (no e) = (A.NoRecord, no_record (l, h) (inl (omega arith)))
-    go (yes l) (yes h) (yes o) (yes e) = let k = nth_exists ordinal es o e in (A.Found (seen_of antenna k.0), found (l, h) k.1)
+    go (no l) h o e = ((Err BadMeter), bad_meter (λ m. l m.0))
+    go (yes l) (no h) o e = ((Err BadMeter), bad_meter (λ m. h m.1))
+    go (yes l) (yes h) (no o) e = ((Err NoRecord), no_record (l, h) (inr (omega arith)))
+    go (yes l) (yes h) (yes o) (no e) = ((Err NoRecord), no_record (l, h) (inl (omega arith)))
+    go (yes l) (yes h) (yes o) (yes e) = let k = nth_exists ordinal es o e in (Ok (seen_of antenna k.0), found (l, h) k.1)
 
 pub read_exists : (first second : List ℕ) (meter ordinal : ℕ) → (r : About) × Read first second meter ordinal r
 unfolding Answered
 read_exists first second meter ordinal = go (form_of first) (form_of second) refl refl
   where
     go : (f g : Form) → form_of first ≡ f → form_of second ≡ g → (r : About) × Read first second meter ordinal r
-    go F.Sound g p q = let a = asked_exists 1 first meter ordinal in (a.0, by_first p a.1)
-    go (F.Refused x) F.Sound p q = let a = asked_exists 2 second meter ordinal in (a.0, by_second p q a.1)
-    go (F.Refused x) (F.Refused y) p q = (A.Malformed x, neither p q)
+    go (Ok tt) g p q = let a = asked_exists First first meter ordinal in (a.0, by_first p a.1)
+    go (Err x) (Ok tt) p q = let a = asked_exists Second second meter ordinal in (a.0, by_second p q a.1)
+    go (Err x) (Err y) p q = (Err (Malformed x), neither p q)
 
 -- ---- the contracts
 pub number_unique : (r : About) (x y : ℕ) → x ≡ read_number r → y ≡ read_number r → x ≡ y

@@ -5,95 +5,123 @@
 ghost use Rattle.std.specs.Prelude.{◌≡◌, ◌<◌};
 ghost use Rattle.records.specs.Block.{parse};
 ghost use Rattle.records.specs.Named.{named};
-ghost use Rattle.antennas.specs.Antennas.{Asked, Read, Part, Lies, read_number, read_place, read_count, read_antenna, read_start, read_length};
+ghost use Rattle.antennas.specs.Antennas.{Asked, Read, Part, Lies, antenna_of, refusal_number, refusal_place, read_number, read_place, read_count, read_antenna, read_start, read_length};
 ghost use Rattle.antennas.specs.Search.{Sought};
+
+use records::Records;
+use refusals::Numbered;
+
+// The antenna whose block is used.
+#[derive(Clone, Copy, PartialEq, Eq)]
+pub enum Antenna {
+    First,
+    Second,
+}
+
+// The document's number of an antenna.
+impl From<Antenna> for u32 {
+    ghost from_gives = { λ antenna n. n ≡ antenna_of antenna };
+
+    fn from(antenna: Antenna) -> u32 {
+        match antenna {
+            Antenna::First => 1,
+            Antenna::Second => 2,
+        }
+    }
+}
 
 // What is told of a record: its bits, the antenna that it came from, and where its bytes stand in that antenna's block.
 #[derive(Clone, Copy)]
 pub struct Seen {
     pub count: usize,
-    pub antenna: u32,
+    pub antenna: Antenna,
     pub start: usize,
     pub length: usize,
 }
 
-// A block's refusal has its place; the two refusals of the question itself have none.
-#[derive(Clone, Copy)]
-pub enum About {
-    Found(Seen),
+// Why nothing is told. A block's refusal has its place; the two refusals of the question itself have none.
+#[derive(Clone, Copy, PartialEq, Eq)]
+pub enum Refusal {
     Malformed(records::Refusal),
     BadMeter,
     NoRecord,
 }
 
-// The document's number for an answer, 0 where a record was found.
-pub fn number(x: About) -> u32
-    ensures { result ≡ read_number x }
-{
-    match x {
-        About::Found(_) => 0,
-        About::Malformed(y) => records::number(y),
-        About::BadMeter => 14,
-        About::NoRecord => 18,
-    }
-}
+impl Numbered for Refusal {
+    ghost number = { refusal_number };
 
-// The ordinal-th of the records of a block that name the meter.
-fn find(block: &[u8], antenna: u32, meter: usize, ordinal: u32) -> About
-    requires { 0 < ordinal }
-    ensures { Sought antenna (named meter (parse block.now).records) ordinal result }
-{
-    let mut left = ordinal;
-    let mut at = 0;
-    loop {
-        match records::record_at(block, at) {
-            records::Head::Found(r) => {
-                if r.meter == meter {
-                    if left == 1 {
-                        return About::Found(Seen {
-                            count: r.count,
-                            antenna: antenna,
-                            start: r.start,
-                            length: r.next - r.start,
-                        });
-                    }
-                    left -= 1;
-                }
-                at = r.next;
-            }
-            records::Head::Refused(_) => return About::NoRecord,
-            records::Head::End => return About::NoRecord,
+    fn number(self) -> u32 {
+        match self {
+            Refusal::Malformed(refusal) => refusal.number(),
+            Refusal::BadMeter => 14,
+            Refusal::NoRecord => 18,
         }
     }
 }
 
+impl Refusal {
+    // The place that a refusal returns.
+    pub fn place(self) -> usize
+        ensures { result ≡ refusal_place self }
+    {
+        match self {
+            Refusal::Malformed(refusal) => refusal.place(),
+            Refusal::BadMeter | Refusal::NoRecord => 0,
+        }
+    }
+}
+
+// The ordinal-th of the records of a block that name the meter. By a `for`: what `map_while`, `filter` and `nth` give of this iterator is not proved, since its
+// relation speaks of positions in the block.
+fn find(block: &[u8], antenna: Antenna, meter: usize, ordinal: u32) -> Result<Seen, Refusal>
+    requires { 0 < ordinal }
+    ensures { Sought antenna (named meter (parse block.now).records) ordinal result }
+{
+    let mut left = ordinal;
+    for record in Records::of(block) {
+        let Ok(record) = record else {
+            break;
+        };
+        if record.meter == meter {
+            if left == 1 {
+                return Ok(Seen {
+                    count: record.count,
+                    antenna,
+                    start: record.start,
+                    length: record.next - record.start,
+                });
+            }
+            left -= 1;
+        }
+    }
+    Err(Refusal::NoRecord)
+}
+
 // The question to the block that is used.
-fn ask(block: &[u8], antenna: u32, meter: u32, ordinal: u32) -> About
+fn ask(block: &[u8], antenna: Antenna, meter: u32, ordinal: u32) -> Result<Seen, Refusal>
     ensures { Asked antenna block.now meter ordinal result (read_number result) (read_place result) (read_count result) (read_antenna result) (read_start result) (read_length result) }
 {
     let asked = meter as usize;
-    if asked == 0 {
-        return About::BadMeter;
-    }
-    if records::METERS < asked {
-        return About::BadMeter;
+    if !(1..=records::METERS).contains(&asked) {
+        return Err(Refusal::BadMeter);
     }
     if ordinal == 0 {
-        return About::NoRecord;
+        return Err(Refusal::NoRecord);
     }
     find(block, antenna, asked, ordinal)
 }
 
 // The bit count, the antenna and the stretch of that meter's record, or the refusal. A block that is malformed anywhere is not used at all.
-pub fn read_about(first: &[u8], second: &[u8], meter: u32, ordinal: u32) -> About
+// The four arguments are C's, and the program's; no fact goes with them that a struct of them would hold.
+pub fn read_about(first: &[u8], second: &[u8], meter: u32, ordinal: u32) -> Result<Seen, Refusal>
     ensures { Read first.now second.now meter ordinal result }
 {
-    match records::form_of(first) {
-        records::Form::Sound => ask(first, 1, meter, ordinal),
-        records::Form::Refused(x) => match records::form_of(second) {
-            records::Form::Sound => ask(second, 2, meter, ordinal),
-            records::Form::Refused(_) => About::Malformed(x),
-        },
+    let Err(refusal) = records::form_of(first) else {
+        return ask(first, Antenna::First, meter, ordinal);
+    };
+    match records::form_of(second) {
+        Ok(()) => ask(second, Antenna::Second, meter, ordinal),
+        Err(_) => Err(Refusal::Malformed(refusal)),
     }
 }
 
@@ -102,14 +130,12 @@ pub fn read_part<'a>(first: &'a [u8], second: &'a [u8], meter: u32, ordinal: u32
     ensures part { Part first.now second.now meter ordinal result.now }
     ensures lies { Lies first.now second.now meter ordinal first.entry.ref_ptr second.entry.ref_ptr result.ref_ptr }
 {
-    let about = read_about(first, second, meter, ordinal);
-    let About::Found(x) = about else {
-        return &first[0..0];
+    let Ok(seen) = read_about(first, second, meter, ordinal) else {
+        return &first[..0];
     };
-    let start = x.start;
-    let end = start + x.length;
-    if x.antenna == 1 {
-        return &first[start..end];
-    }
-    &second[start..end]
+    let block = match seen.antenna {
+        Antenna::First => first,
+        Antenna::Second => second,
+    };
+    &block[seen.start..seen.start + seen.length]
 }

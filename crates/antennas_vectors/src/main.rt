@@ -3,29 +3,29 @@
 // A case: its name; the first antenna's block and the second's; the meter and the ordinal.
 #![tactic(auto)]
 
-use antennas::About;
+use antennas::{Refusal, Seen};
+
+// The longest block of a case.
+const BLOCK: usize = records::BLOCK_BYTES + 7;
 
 fn print_bytes(bytes: &[u8]) {
-    let mut i = 0;
-    while i < bytes.len() {
-        show::field(bits::wide(bytes[i]) as u64);
-        i += 1;
+    for &byte in bytes {
+        show::field(byte);
     }
 }
 
 // The number of the answer; then count, antenna, start and length of a record that was found, or the place of what is wrong with the first block.
-fn print_about(x: About) {
-    show::field(antennas::number(x) as u64);
-    match x {
-        About::Found(s) => {
-            show::field(s.count as u64);
-            show::field(s.antenna as u64);
-            show::field(s.start as u64);
-            show::field(s.length as u64);
+fn print_about(answer: Result<Seen, Refusal>) {
+    show::field(refusals::number_of(answer));
+    match answer {
+        Ok(seen) => {
+            show::field(seen.count);
+            show::field(u32::from(seen.antenna));
+            show::field(seen.start);
+            show::field(seen.length);
         }
-        About::Malformed(y) => show::field(records::place(y) as u64),
-        About::BadMeter => {}
-        About::NoRecord => {}
+        Err(Refusal::Malformed(refusal)) => show::field(refusal.place()),
+        Err(Refusal::BadMeter | Refusal::NoRecord) => {}
     }
 }
 
@@ -39,9 +39,9 @@ fn ask<'a>(first: &'a [u8], second: &'a [u8], meter: u32, ordinal: u32) {
 
 fn run() {
     cases::name();
-    let mut first = [0u8; 16391];
+    let mut first = [0u8; BLOCK];
     let n = cases::bytes(&mut first);
-    let mut second = [0u8; 16391];
+    let mut second = [0u8; BLOCK];
     let m = cases::bytes(&mut second);
     ask(&first[..n], &second[..m], cases::word(), cases::word());
 }

@@ -1,27 +1,21 @@
 -- What the numbers say of single bits: bit i of a list of bytes is bit i of its number; packing and unpacking are inverse.
-use Prim.Native.Nat.{ℕ, zero, suc, ◌+◌, ◌*◌, ◌/◌, ◌%◌, ◌^◌, ◌≤◌, ◌<◌}
+use Prim.Native.Nat.{ℕ, zero, suc, ◌+◌, ◌*◌, ◌-◌, ◌/◌, ◌%◌, ◌^◌, ◌≤◌, ◌<◌}
 use mathlib.Core.Path.{◌≡◌, refl, sym, ap, ◌∙◌, ap₂}
 use mathlib.Core.List.{List}
 use mathlib.Core.Logic.{◌↔◌, ⊎_elim}
 use native.Mathlib.Nat.{pow-succ', div-eq_of_lt, div-div-eq-div-mul, div-add-mod, div-lt_iff_lt-mul, pow-le-pow_right, div-le_self, div-add-mod'}
 use native.Mathlib.Omega.{arith}
 use lib.ListN.{length, get_or, get_or-eq_default}
-use lib.Pow.{pow_pos, pow_mono, pow-add}
+use lib.Pow.{pow_pos, pow_mono, pow-add, field, mod-mod-pow}
 use Rattle.bits.specs.Bits.{num, digits, Below, bit_at}
 use Rattle.bits.proofs.Numbers.{num-digits, digits-num, num_lt, get_or-digits, pow8}
 use Rattle.integers.proofs.Finite.{lt_or_ge}
 use lib.Bits.{bit_xor, differ, xor_step, xor_shr, xor_mod}
 
 low_bits : (s m : ℕ) → s < 8 → m % 256 / 2 ^ s % 2 ≡ m / 2 ^ s % 2
-low_bits zero m k = omega arith
-low_bits (suc zero) m k = omega arith
-low_bits (suc (suc zero)) m k = omega arith
-low_bits (suc (suc (suc zero))) m k = omega arith
-low_bits (suc (suc (suc (suc zero)))) m k = omega arith
-low_bits (suc (suc (suc (suc (suc zero))))) m k = omega arith
-low_bits (suc (suc (suc (suc (suc (suc zero)))))) m k = omega arith
-low_bits (suc (suc (suc (suc (suc (suc (suc zero))))))) m k = omega arith
-low_bits (suc (suc (suc (suc (suc (suc (suc (suc s)))))))) m k = absurd (omega arith)
+low_bits s m h =
+    let e : 8 ≡ (7 - s + 1) + s = omega arith in
+    ap (λ (n : ℕ). m % 2 ^ n / 2 ^ s % 2) e ∙ ap (λ (n : ℕ). n % 2) (field m (7 - s + 1) s) ∙ mod-mod-pow (m / 2 ^ s) (7 - s) 1
 
 -- byte j of a list of bytes is byte j of its number
 pub byte_of : (bytes : List ℕ) (j : ℕ) → Below 256 bytes → get_or bytes j 0 ≡ num 256 bytes / 256 ^ j % 256

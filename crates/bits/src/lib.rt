@@ -4,27 +4,18 @@
 ghost use Rattle.std.specs.Prelude.{◌≡◌, ◌<◌, ◌^◌, get_or, ltb};
 ghost use Rattle.bits.specs.Bits.{num, bit_at};
 
-// A byte as a number.
-pub fn wide(x: u8) -> usize
-    ensures { (result ≡ x) × (result < 256) }
-{
-    x as usize
-}
-
 // A byte, 0 past the end.
 pub fn byte_at(bytes: &[u8], j: usize) -> usize
     ensures { (result ≡ get_or bytes.now j 0) × (result < 256) }
 {
-    if j < bytes.len() { wide(bytes[j]) } else { 0 }
+    bytes.get(j).map_or(0, |&byte| usize::from(byte))
 }
 
 // Bit i, 0 past the end.
 pub fn bit_at(bytes: &[u8], i: usize) -> usize
     ensures { result ≡ bit_at bytes.now i }
 {
-    let byte = byte_at(bytes, i / 8);
-    let k = i % 8;
-    (byte >> k) % 2
+    (byte_at(bytes, i / 8) >> (i % 8)) % 2
 }
 
 // Whether no bit at or past the count is set: the number of the bytes, lowest first, is below 2 to the count.
@@ -36,14 +27,5 @@ pub fn clear_past(bytes: &[u8], count: usize) -> bool
     if bytes.len() <= from {
         return true;
     }
-    let mut left = count % 8;
-    let mut i = from;
-    while i < bytes.len() {
-        if wide(bytes[i]) >> left != 0 {
-            return false;
-        }
-        left = 0;
-        i += 1;
-    }
-    true
+    bytes[from] >> (count % 8) == 0 && bytes[from + 1..].iter().all(|&byte| byte == 0)
 }

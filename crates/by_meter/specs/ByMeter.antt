@@ -1,32 +1,31 @@
 -- Learning by meter number, by the document's numbers for no. "A learn request by meter number uses that place's bits."
 --
---   meter_number r, meter_p r, meter_q r   the number, p and q of each case of `ByMeter`
+--   refusal_number e                    the number of each `Refusal`
+--   meter_number r, meter_p r, meter_q r   the number, p and q of an answer
 --   LearnsMeter s meter number p q      the table of refusals, in its order "By meter: 10, 14, 3", and 0 with the smallest fraction
-use Rattle.std.specs.Prelude.{◌≡◌, true, false, ◌⊎◌, List, ℕ, ◌<◌, ℤ, pos, length}
+use Rattle.std.specs.Prelude.{◌≡◌, true, false, ◌⊎◌, List, ℕ, ◌<◌, ℤ, pos, length, Result}
+use Rattle.refusals.specs.Refusals as refusals
 use Rattle.bits.specs.Bits.{num}
 use Rattle.fractions.specs.Pairs.{Smallest, NoneFits}
+use Rattle.fractions.specs.declared.Fraction.{Fraction}
 use Rattle.records.specs.Block.{meters}
 use Rattle.places.specs.Places.{is_store, burst, HasPlace}
-use Rattle.by_meter.specs.declared.ByMeter.{ByMeter}
-use Rattle.by_meter.specs.declared.ByMeter.TheVariants as M
+use Rattle.by_meter.specs.declared.Refusal.{Refusal}
+use Rattle.by_meter.specs.declared.Refusal.TheVariants.{NotAStore, BadMeter, NoneInside}
 
-abbrev pub meter_number : ByMeter → ℕ
-meter_number (M.Answer x) = 0
-meter_number M.NotAStore = 10
-meter_number M.BadMeter = 14
-meter_number M.NoneInside = 3
+abbrev pub refusal_number : Refusal → ℕ
+refusal_number NotAStore = 10
+refusal_number BadMeter = 14
+refusal_number NoneInside = 3
 
-abbrev pub meter_p : ByMeter → ℤ
-meter_p (M.Answer x) = x.p
-meter_p M.NotAStore = pos 0
-meter_p M.BadMeter = pos 0
-meter_p M.NoneInside = pos 0
+abbrev pub meter_number : Result Fraction Refusal → ℕ
+meter_number r = refusals.number_of refusal_number r
 
-abbrev pub meter_q : ByMeter → ℕ
-meter_q (M.Answer x) = x.q
-meter_q M.NotAStore = 0
-meter_q M.BadMeter = 0
-meter_q M.NoneInside = 0
+abbrev pub meter_p : Result Fraction Refusal → ℤ
+meter_p r = refusals.field_of (pos 0) (λ (x : Fraction). x.p) r
+
+abbrev pub meter_q : Result Fraction Refusal → ℕ
+meter_q r = refusals.field_of 0 (λ (x : Fraction). x.q) r
 
 pub data LearnsMeter (s : List ℕ) (meter : ℕ) : ℕ → ℤ → ℕ → Type 0 where
   -- the smallest fraction that fits the place's bits, n their number and A their value

@@ -5,8 +5,7 @@
 --   Reading first second meter ordinal refusal ..   the six numbers of the answer to reading one record out of two antennas' blocks
 use Rattle.std.specs.Prelude.{◌≡◌, List, ℕ}
 use Rattle.store.specs.Taking.{take_of, number_of, place_of}
-use Rattle.antennas.specs.declared.About.{About}
-use Rattle.antennas.specs.Antennas.{Reads}
+use Rattle.antennas.specs.Antennas.{About, Reads}
 
 pub record Takes (s b : List ℕ) (number place : ℕ) (t : List ℕ) : Type 0 where
   pub number_is : number ≡ number_of (take_of s b).answer

@@ -17,6 +17,7 @@ ghost use Rattle.capi.specs.Flat.{Takes, Reading};
 ghost use Rattle.capi.specs.Version.{version};
 
 use flat::{Entry, Fraction, Loaded, Read, Stepped, Storage, Taken, Walked, Word};
+use refusals::number_of;
 use registers::Register;
 
 // 0.2.0, a byte to each part.
@@ -35,7 +36,7 @@ pub extern "C" fn cj_version() -> u32
 pub extern "C" fn cj_learn(bytes: &[u8], count: u64) -> Fraction
     ensures { Learns bytes.now count result.refusal result.p result.q }
 {
-    flat::from_learned(learning::learn(bytes, count))
+    Fraction::from(learning::learn(bytes, count))
 }
 
 // The smallest fraction of the bits in a meter's place of the store. Refuses 10, 14, 3.
@@ -43,7 +44,7 @@ pub extern "C" fn cj_learn(bytes: &[u8], count: u64) -> Fraction
 pub extern "C" fn cj_learn_meter(store: &[u8], meter: u32) -> Fraction
     ensures { LearnsMeter store.now meter result.refusal result.p result.q }
 {
-    flat::from_by_meter(by_meter::learn_meter(store, meter))
+    Fraction::from(by_meter::learn_meter(store, meter))
 }
 
 // The register's fraction, in lowest terms, q positive. Refuses 5, 7.
@@ -51,7 +52,7 @@ pub extern "C" fn cj_learn_meter(store: &[u8], meter: u32) -> Fraction
 pub extern "C" fn cj_read_back(r: Register) -> Fraction
     ensures { ReadsBack r result.refusal result.p result.q }
 {
-    flat::from_read_back(registers::read_back(r))
+    Fraction::from(registers::read_back(r))
 }
 
 // The register that emits the bits of p/q, which need not be in lowest terms. Refuses 4, 8.
@@ -59,7 +60,7 @@ pub extern "C" fn cj_read_back(r: Register) -> Fraction
 pub extern "C" fn cj_load(p: i32, q: u32) -> Loaded
     ensures { Loads p q result.refusal result.state }
 {
-    flat::from_loaded(registers::load(p, q))
+    Loaded::from(registers::load(fractions::Fraction { p, q }))
 }
 
 // One step: the emitted bit, and the register after it. Refuses 5, and the register comes back as it was given.
@@ -67,7 +68,7 @@ pub extern "C" fn cj_load(p: i32, q: u32) -> Loaded
 pub extern "C" fn cj_step(r: Register) -> Stepped
     ensures { Steps r result.refusal result.bit result.state }
 {
-    flat::from_stepped(registers::step(r))
+    Stepped::from(registers::step(r))
 }
 
 // Lead-in, period and their sum, where the sum is within the allowance. Refuses 5, 6.
@@ -75,7 +76,7 @@ pub extern "C" fn cj_step(r: Register) -> Stepped
 pub extern "C" fn cj_walk(r: Register, allowance: u32) -> Walked
     ensures { Walks r allowance result.refusal result.lead result.period result.sum }
 {
-    flat::from_walked(walking::walk(r, allowance))
+    Walked::from(walking::walk(r, allowance))
 }
 
 // The storage sheet of a register: its cells, and the bits that hold its memory now and after any number of steps. Refuses 5.
@@ -83,7 +84,7 @@ pub extern "C" fn cj_walk(r: Register, allowance: u32) -> Walked
 pub extern "C" fn cj_sheet(r: Register) -> Storage
     ensures { Sheets r result.refusal result.cells result.memory_bits }
 {
-    flat::from_sheet(storage::sheet(r))
+    Storage::from(storage::sheet(r))
 }
 
 // The period table at q. Refuses 4: even q, 0, and q above 1,023.
@@ -91,7 +92,7 @@ pub extern "C" fn cj_sheet(r: Register) -> Storage
 pub extern "C" fn cj_period(q: u32) -> Entry
     ensures { Periods q result.refusal result.period }
 {
-    flat::from_lookup(periods::period(q))
+    Entry::from(periods::period(q))
 }
 
 // The first 64 bits of p/q, the first bit lowest. Refuses 4.
@@ -99,7 +100,7 @@ pub extern "C" fn cj_period(q: u32) -> Entry
 pub extern "C" fn cj_output_word(p: i32, q: u32) -> Word
     ensures { Outputs p q result.refusal result.word }
 {
-    flat::from_output(fractions::output_word(p, q))
+    Word::from(fractions::Fraction { p, q }.output_word())
 }
 
 // Whitens the bytes, and leaves the caller's register stepped eight times for each byte. The answer is the refusal itself: 5, 9, or 0.
@@ -107,7 +108,7 @@ pub extern "C" fn cj_output_word(p: i32, q: u32) -> Word
 pub extern "C" fn cj_whiten(r: &mut Register, bytes: &mut [u8]) -> u32
     ensures { Whitens r.old bytes.old result r.new bytes.new }
 {
-    whitening::whiten(r, bytes)
+    number_of(whitening::whiten(r, bytes))
 }
 
 // Takes a block into the store, whole or not at all. Refuses 10, 11, then 12 to 16 record by record, then 17, with the place of the record; a place is at most 16,384.

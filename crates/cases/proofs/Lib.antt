@@ -1,2 +1,2 @@
--- Puts has the laws of bytes that are put in, one behind the other and into a part.
+-- Puts has the laws of bytes that are put into a part.
 pub mod Puts

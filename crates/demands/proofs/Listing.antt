@@ -19,7 +19,7 @@ use Rattle.fractions.specs.Pairs.{Smallest}
 use Rattle.fractions.specs.Expansion.{next_num, iter_num, digits_to}
 use Rattle.records.specs.Block.{meters, judged, head_at, Parsed, parse_from, parse}
 use Rattle.records.specs.Named.{named, brought}
-use Rattle.records.specs.declared.Form.TheVariants as F
+use Rattle.std.specs.Prelude.{Ok}
 use Rattle.records.proofs.Cond.{no}
 use Rattle.records.proofs.Blocks.{form_whole}
 use Rattle.records.proofs.Brought.{brought_none}
@@ -33,7 +33,6 @@ use Rattle.walking.specs.Walks as W
 use Rattle.places.specs.Places.{bits_of, burst, fresh, HasPlace}
 use Rattle.places.proofs.Decode.{fresh-store, fresh_empty}
 use Rattle.room.specs.Rooms.{room_of}
-use Rattle.store.specs.declared.Answer.TheVariants as A
 use Rattle.store.specs.Taking.{take_of}
 use Rattle.store.proofs.Taking as store
 use Rattle.store.proofs.After.{take_kept}
@@ -50,7 +49,7 @@ use Rattle.list_text.proofs.Printing.{prints_unique}
 empty_silent : {s : List ℕ} {m : ℕ} → burst s m ≡ [] → HasBits s m → ⊥
 empty_silent e b = omega (arith, b.some, ap length e)
 
-pub unnamed_silent : (b : List ℕ) (m : ℕ) → 0 < m → m ≤ meters → (take_of fresh b).answer ≡ A.Taken → named m (parse b).records ≡ [] → HasBits (take_of fresh b).store m → ⊥
+pub unnamed_silent : (b : List ℕ) (m : ℕ) → 0 < m → m ≤ meters → (take_of fresh b).answer ≡ Ok tt → named m (parse b).records ≡ [] → HasBits (take_of fresh b).store m → ⊥
 unnamed_silent b m l h k e =
     empty_silent {s = (take_of fresh b).store} {m = m}
     (take_bits m l h fresh b k ∙ ap (λ (x : List ℕ). x ++ brought m (parse b).records) (fresh_empty m) ∙ brought_none m (parse b).records e)
@@ -64,11 +63,11 @@ up_silent {s} {k} {t} (suc i) h n u =
     (lt_or_ge k (suc i))
 
 -- ---- the empty block
-empty_parse : parse [] ≡ record { records = []; form = F.Sound }
+empty_parse : parse [] ≡ record { records = []; form = Ok tt }
 unfolding parse parse_from head_at judged
 empty_parse = refl
 
-empty_taken : (take_of fresh []).answer ≡ A.Taken
+empty_taken : (take_of fresh []).answer ≡ Ok tt
 unfolding room_of
 empty_taken = sym (store.taken fresh [] _ fresh-store (form_whole [] (omega arith) (ap (λ (p : Parsed). p.form) empty_parse))
     (ap (λ (p : Parsed). room_of (bits_of fresh) p.records) empty_parse) refl).0

@@ -4,7 +4,7 @@
 --   word_law    the next k digits and the numerator after them, once over k: 32, 8 and r are instances
 use Rattle.std.proofs.Common.{◌≡◌, ℕ, ◌+◌, ◌-◌, ◌*◌, ◌/◌, ◌%◌, ◌^◌, ◌<◌, ◌≤◌, ℤ, pos, ◌+ℤ◌, ◌-ℤ◌, nat_abs, sym, ap, ◌∙◌, mul-le-mul_right, mul_comm, div-add-mod', mul-div_cancel, arith, pow_pos, pow-add}
 use native.Mathlib.Nat.{div-le_of_le-mul, eq_of_mul-eq-mul_right}
-use Rattle.integers.proofs.Parts.{up, down, eq_of, parts-+, parts--, parts, nat_abs_is}
+use Rattle.integers.proofs.Parts.{up, down, eq_of, parts-+, parts--, nat_abs_is}
 use Rattle.integers.proofs.Modulo.{key-of, cong_of, mod_down, mul_mod_r}
 use Rattle.fractions.specs.Expansion.{iter_num, digits_to}
 use Rattle.fractions.proofs.Numerators.{Splits, expansion_splits}
@@ -91,8 +91,3 @@ raised p h =
 -- ---- and every natural number carries one
 pub lowered : (P : ℕ) → Offset P (pos P -ℤ pos (2 ^ 62))
 lowered P = offset_of P (pos P -ℤ pos (2 ^ 62)) (omega (arith, parts-- (pos P) (pos (2 ^ 62))))
-
-pub lowered_small : (P : ℕ) → P < 2 ^ 63 → nat_abs (pos P -ℤ pos (2 ^ 62)) < 2 ^ 63
-lowered_small P h =
-    let z = pos P -ℤ pos (2 ^ 62) in
-    omega (arith, nat_abs_is z, parts z, parts-- (pos P) (pos (2 ^ 62)))

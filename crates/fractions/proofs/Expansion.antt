@@ -9,7 +9,7 @@
 --   digits_bit              bit i of the first n digits as one number is digit i
 --   outputs_bit             so bit i of the output word is digit i of the expansion
 --   outputs_unique          two answers for the output word have the same numbers; output_unique: so they are the same answer
-use Rattle.std.proofs.Common.{◌≡◌, ℕ, zero, suc, ◌+◌, ◌-◌, ◌*◌, ◌/◌, ◌%◌, ◌^◌, ◌<◌, ◌≤◌, ◌↔◌, List, ℤ, pos, negsuc, ◌-ℤ◌, ◌*ℤ◌, neg_ℤ, sym, refl, ap, ◌∙◌, subst, ap₂, inl, inr, mul-le-mul_right, pow-suc, zero-add, arith, pow_pos}
+use Rattle.std.proofs.Common.{◌≡◌, ℕ, zero, suc, ◌+◌, ◌-◌, ◌*◌, ◌/◌, ◌%◌, ◌^◌, ◌<◌, ◌≤◌, ◌↔◌, List, Result, Ok, Err, ℤ, pos, negsuc, ◌-ℤ◌, ◌*ℤ◌, neg_ℤ, sym, refl, ap, ◌∙◌, subst, ap₂, inl, inr, mul-le-mul_right, pow-suc, zero-add, arith, pow_pos}
 use native.Mathlib.Nat.{add-mul-div_left, div-eq_of_lt}
 use Rattle.integers.specs.Numbers.{odd_z}
 use Rattle.integers.proofs.Sizes.{odd_lt}
@@ -20,8 +20,7 @@ use Rattle.bits.specs.Bits.{bit_of, bit_at, value}
 use Rattle.fractions.specs.Pairs.{Fits, SameFraction}
 use Rattle.fractions.specs.Expansion.{next_num, iter_num, digit_at, digits_to}
 use Rattle.fractions.specs.Answers.{number_of, word_of, Outputs, word, outside}
-use Rattle.fractions.specs.declared.Output.{Output}
-use Rattle.fractions.specs.declared.Output.TheVariants.{Word, Outside}
+use Rattle.fractions.specs.declared.Outside.{Outside}
 use Rattle.fractions.proofs.Numerators.{Splits, split_eq, split_of, expansion_splits, splits_unique, digits_add, digits_lt}
 use Rattle.fractions.proofs.Same.{fits_same}
 use Rattle.bits.proofs.Values.{bit_lt, value_lt}
@@ -118,8 +117,8 @@ outputs_unique p q m n u v (word k l f) (outside x) = absurd (x k)
 outputs_unique p q m n u v (outside x) (word k l f) = absurd (x k)
 outputs_unique p q m n u v (outside x) (outside y) = (refl, refl)
 
-pub output_unique : (p : ℤ) (q : ℕ) (r s : Output) → Outputs p q (number_of r) (word_of r) → Outputs p q (number_of s) (word_of s) → r ≡ s
-output_unique p q (Word u) (Word v) h k = ap Word (outputs_unique p q 0 0 u v h k).1
-output_unique p q (Word u) Outside h k = absurd (omega (arith, (outputs_unique p q 0 4 u 0 h k).0))
-output_unique p q Outside (Word v) h k = absurd (omega (arith, (outputs_unique p q 4 0 0 v h k).0))
-output_unique p q Outside Outside h k = refl
+pub output_unique : (p : ℤ) (q : ℕ) (r s : Result ℕ Outside) → Outputs p q (number_of r) (word_of r) → Outputs p q (number_of s) (word_of s) → r ≡ s
+output_unique p q (Ok u) (Ok v) h k = ap Ok (outputs_unique p q 0 0 u v h k).1
+output_unique p q (Ok u) (Err x) h k = absurd (omega (arith, (outputs_unique p q 0 4 u 0 h k).0))
+output_unique p q (Err x) (Ok v) h k = absurd (omega (arith, (outputs_unique p q 4 0 0 v h k).0))
+output_unique p q (Err x) (Err y) h k = refl

@@ -1,7 +1,5 @@
--- The laws on fractions: Limits as code tests them, Numerators of an expansion, Same (when two pairs are one fraction), Lowest terms, Order and the smallest
 -- pair, Expansion (its digits are the bits that fit), Words (by wrapping arithmetic), Carrying (a numerator as a
 -- natural number, and its digits a word at a time), Existence (every burst has its answer).
-pub mod Limits
 pub mod Numerators
 pub mod Same
 pub mod Lowest

@@ -1,22 +1,15 @@
 -- The output word by wrapping arithmetic: p's residue times the inverse of q.
-use Rattle.std.proofs.Common.{◌≡◌, ℕ, ◌+◌, ◌*◌, ◌/◌, ◌%◌, ◌^◌, ◌<◌, true, false, T, ℤ, pos, negsuc, ◌+ℤ◌, ◌-ℤ◌, ◌*ℤ◌, nat_abs, ap, ◌∙◌, subst, mod-eq_of_lt, div-add-mod', mul-one, arith, ltb-true}
-use lib.Signed.{lt_z}
+use Rattle.std.proofs.Common.{FitsSigned, ◌≡◌, ℕ, ◌+◌, ◌*◌, ◌/◌, ◌%◌, ◌^◌, ℤ, pos, negsuc, ◌+ℤ◌, ◌-ℤ◌, ◌*ℤ◌, ap, ◌∙◌, mod-eq_of_lt, div-add-mod', mul-one, arith}
+use Rattle.std.specs.Int.{w64, cast_unsigned}
 use Rattle.integers.proofs.Modulo.{mul_mod_l, cong_r}
 use Rattle.integers.proofs.Ring.{#, ◌⊕◌, ◌⊗◌, ◌⊖◌, ring2, ring3, ring4, ◌≔◌}
 use Rattle.fractions.specs.Pairs.{Fits}
 use Rattle.fractions.specs.Inner.{Residue}
 
-pub residue_negative : (p : ℤ) (s r : ℕ) → lt_z p (pos 0) ≡ true → s ≡ nat_abs p → r < 2 ^ 64 → (r + s) % 2 ^ 64 ≡ 0 → Residue p r
-residue_negative (pos n) s r e h l m = absurd (let k : n < 0 = ltb-true n 0 e in omega arith)
-residue_negative (negsuc n) s r e h l m = record {
-  low = l;
-  times = pos ((r + s) / 2 ^ 64);
-  is = ap pos (omega (arith, div-add-mod' (r + s) (2 ^ 64)));
-}
-
-pub residue_natural : (p : ℤ) (s : ℕ) → lt_z p (pos 0) ≡ false → s ≡ nat_abs p → s < 2 ^ 64 → Residue p s
-residue_natural (pos n) s e h l = record { low = l; times = pos 0; is = ap (λ (m : ℕ). pos m -ℤ pos n) h ∙ ring2 (λ n T. n ⊖ n ≔ T ⊗ # 0) tt (pos n) (pos (2 ^ 64)) }
-residue_natural (negsuc n) s e h l = absurd (subst T e tt)
+-- the machine's 64 bits of p
+pub residue_wraps : (p : ℤ) → FitsSigned w64 p → Residue p (cast_unsigned w64 p)
+residue_wraps (pos n) h = record { low = omega (arith, h.sfits); times = pos 0; is = ring2 (λ n T. n ⊖ n ≔ T ⊗ # 0) tt (pos n) (pos (2 ^ 64)) }
+residue_wraps (negsuc n) h = record { low = omega arith; times = pos 1; is = ap pos (omega (arith, h.sfits)) }
 
 pub word_fits : (p : ℤ) (q r v u : ℕ) → Residue p r → q * v % 2 ^ 64 ≡ 1 → u ≡ r * v % 2 ^ 64 → Fits 64 u p q
 word_fits p q r v u R i e = (pos (u * q / 2 ^ 64) +ℤ R.times, over)

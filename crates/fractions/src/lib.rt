@@ -4,16 +4,11 @@
 ghost use Rattle.std.specs.Prelude.{◌^◌, ◌<◌, ◌≤◌, unsigned_abs};
 ghost use Rattle.integers.specs.Numbers.{Decides};
 ghost use Rattle.fractions.specs.Pairs.{Inside};
-ghost use Rattle.fractions.specs.Answers.{Outputs, number_of, word_of};
+ghost use Rattle.fractions.specs.Answers.{Outputs, refusal_number, number_of, word_of};
 ghost use Rattle.fractions.specs.Inner.{Residue, Reduced};
 
 // The largest q, and the largest |p|, inside the limits.
 pub const LIMIT: u32 = 1073741823;
-
-// The same for p, which has a sign.
-const MOST: i32 = LIMIT as i32;
-
-const LEAST: i32 = -MOST;
 
 // 32 bits for p and q: the limits leave two bits spare, and the firmware that calls has 32-bit words.
 #[derive(Clone, Copy)]
@@ -29,48 +24,42 @@ pub struct Ratio {
     pub q: u64,
 }
 
-// The output word, or refusal 4: the pair is outside the limits.
-#[derive(Clone, Copy)]
-pub enum Output {
-    Word(u64),
-    Outside,
-}
+// Refusal 4: the pair is outside the limits.
+#[derive(Clone, Copy, PartialEq, Eq)]
+pub struct Outside;
 
-pub fn is_inside(p: i32, q: u32) -> bool
-    ensures { Decides (Inside p q) result }
-{
-    if q % 2 == 0 {
-        return false;
+impl refusals::Numbered for Outside {
+    ghost number = { refusal_number };
+
+    fn number(self) -> u32 {
+        4
     }
-    if LIMIT < q {
-        return false;
-    }
-    if p < LEAST {
-        return false;
-    }
-    p <= MOST
 }
 
 // p modulo 2^64, so that a negative p enters wrapping arithmetic as its residue.
 fn residue(p: i32) -> u64
     ensures { Residue p result }
 {
-    let size = integers::magnitude(p as i64);
-    if p < 0 {
-        std::num::wrapping_sub_u64(0, size)
-    } else {
-        size
-    }
+    i64::from(p).cast_unsigned()
 }
 
-// The first 64 output bits of p/q as one number, first bit lowest: u with u q - p divisible by 2^64.
-pub fn output_word(p: i32, q: u32) -> Output
-    ensures { Outputs p q (number_of result) (word_of result) }
-{
-    if is_inside(p, q) {
-        Output::Word(integers::wrapping_mul(residue(p), integers::inverse(q as u64)))
-    } else {
-        Output::Outside
+impl Fraction {
+    // Whether the pair is inside the limits.
+    pub fn is_inside(self) -> bool
+        ensures { Decides (Inside self.p self.q) result }
+    {
+        self.q % 2 == 1 && self.q <= LIMIT && self.p.unsigned_abs() <= LIMIT
+    }
+
+    // The first 64 output bits of p/q as one number, first bit lowest: u with u q - p divisible by 2^64.
+    pub fn output_word(self) -> Result<u64, Outside>
+        ensures { Outputs self.p self.q (number_of result) (word_of result) }
+    {
+        if self.is_inside() {
+            Ok(integers::wrapping_mul(residue(self.p), integers::inverse(u64::from(self.q))))
+        } else {
+            Err(Outside)
+        }
     }
 }
 
@@ -79,7 +68,7 @@ pub fn lowest_terms(p: i64, q: u64) -> Ratio
     requires { (1 ≤ q) × (unsigned_abs p < 2 ^ 62) }
     ensures { Reduced p q result.p result.q }
 {
-    let size = integers::magnitude(p);
+    let size = p.unsigned_abs();
     let d = integers::gcd(size, q);
     Ratio {
         p: integers::signed::with_sign(size / d, p < 0),

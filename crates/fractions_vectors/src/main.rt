@@ -1,18 +1,20 @@
-// Runs the output word, the limits and lowest terms on edge values. The expected output comes from tests/vectors/fractions.py.
+// Runs the output word, and with it the limits, on edge values. The expected output comes from tests/vectors/fractions.py.
 #![tactic(auto)]
 
-use fractions::Output;
+use fractions::Fraction;
+use refusals::Numbered;
 
 fn print_word(p: i32, q: u32) {
     show::word(b"word");
-    show::signed_field(p);
-    show::field(q as u64);
-    match fractions::output_word(p, q) {
-        Output::Word(u) => {
+    show::field(p);
+    show::field(q);
+    match (Fraction { p, q }).output_word() {
+        Ok(u) => {
             show::field(u);
         }
-        Output::Outside => {
-            show::word(b" refused 4");
+        Err(refusal) => {
+            show::word(b" refused");
+            show::field(refusal.number());
         }
     }
     show::line_end();
@@ -20,28 +22,27 @@ fn print_word(p: i32, q: u32) {
 
 // One p with the q at the edges: 1, 3, 37, the largest inside, and those outside.
 fn print_words(p: i32) {
-    print_word(p, 1);
-    print_word(p, 3);
-    print_word(p, 37);
-    print_word(p, 1073741823);
-    print_word(p, 0);
-    print_word(p, 2);
-    print_word(p, 1073741822);
-    print_word(p, 1073741824);
-    print_word(p, 1073741825);
-    print_word(p, 4294967295);
+    for q in [
+        1, 3, 37, 1073741823, 0, 2, 1073741822, 1073741824, 1073741825, 4294967295,
+    ] {
+        print_word(p, q);
+    }
 }
 
 fn main() {
-    print_words(0);
-    print_words(1);
-    print_words(-1);
-    print_words(12345);
-    print_words(-12345);
-    print_words(1073741823);
-    print_words(-1073741823);
-    print_words(1073741824);
-    print_words(-1073741824);
-    print_words(2147483647);
-    print_words(-2147483648);
+    for p in [
+        0,
+        1,
+        -1,
+        12345,
+        -12345,
+        1073741823,
+        -1073741823,
+        1073741824,
+        -1073741824,
+        2147483647,
+        -2147483648,
+    ] {
+        print_words(p);
+    }
 }

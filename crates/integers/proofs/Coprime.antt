@@ -11,12 +11,12 @@
 --   coprime_one, _down     1 is coprime to all; what is coprime to m is coprime to the divisors of m
 --   coprime_mul, _power    products and powers of what is coprime to x are coprime to x
 --   coprime_divides        two coprime numbers that divide n: so does their product
---   gcd_zero, _step        what recursion on the remainder shows; gcd_unique: the greatest common divisor is one number
+--   gcd_step               what recursion on the remainder shows; gcd_unique: the greatest common divisor is one number
 --   GcdParts, gcd_parts    divided by it two numbers are coprime
 --   two_cancel             factors of two cancel modulo an odd number
 use Rattle.std.proofs.Common.{◌≡◌, ℕ, zero, suc, ◌+◌, ◌*◌, ◌/◌, ◌%◌, ◌^◌, ◌<◌, ◌≤◌, sym, refl, ap, ◌∙◌, subst, mod-lt, mod-eq_of_lt, mul_assoc, mul_comm, one-mul, pow-suc, mul-one, arith}
 use Prim.Native.Nat.{◌∣◌}
-use native.Mathlib.Nat.{div-add-mod, mul-add-mod_self_left, mul-mod_right, mul-mod_left, eq_of_mul-eq-mul_left, dvd-mod_iff, dvd_antisymm, dvd_iff_mod-eq-zero, mod_self, zero-mod, pos_of_dvd_of_pos, eq-one_of_dvd-one, dvd_of_mul-dvd-mul_left, mod-zero, pow-zero}
+use native.Mathlib.Nat.{div-add-mod, mul-add-mod_self_left, mul-mod_right, mul-mod_left, eq_of_mul-eq-mul_left, dvd-mod_iff, dvd_antisymm, dvd_iff_mod-eq-zero, pos_of_dvd_of_pos, eq-one_of_dvd-one, dvd_of_mul-dvd-mul_left, mod-zero, pow-zero}
 use native.Mathlib.Decide.{ℕ_discrete, map_dec}
 use Rattle.integers.specs.Numbers.{Divides, Coprime, IsGcd, Least}
 use Rattle.integers.proofs.Finite.{least}
@@ -149,9 +149,6 @@ coprime_divides d e n s co h k =
     div_parts d e n h (euclid e d (n / d) s (λ x a b. co x b a) (ap (λ m. m % e) (mul_comm (n / d) d ∙ sym (quot d n h)) ∙ k))
 
 -- ---- the greatest common divisor: what recursion on the remainder shows, and that there is one
-pub gcd_zero : (a : ℕ) → IsGcd a 0 a
-gcd_zero a = record { left = mod_self a; right = zero-mod a; most = λ e p q. p }
-
 -- what divides b divides a exactly where it divides a mod b
 mod_divides : (e a b : ℕ) → Divides e b → (Divides e (a % b) → Divides e a) × (Divides e a → Divides e (a % b))
 mod_divides e a b h =

@@ -2,12 +2,10 @@
 use Rattle.std.proofs.Common.{◌≡◌, ℕ, zero, suc, ◌-◌, ◌<◌, ◌≤◌, min, ◌⊎◌, subst, inl, inr, not-suc-le-zero, le_antisymm, arith}
 use native.Mathlib.Decide.{ℕ_discrete, dec_le}
 use Rattle.integers.specs.Numbers.{Least}
+pub use Rattle.std.proofs.lemmas.Bool.{cases_lt as lt_or_ge}
 
 pub le_or_gt : (a b : ℕ) → (a ≤ b) ⊎ (b < a)
 le_or_gt a b = elim (dec_le a b) [ yes h ↦ inl h | no h ↦ inr (omega arith) ]
-
-pub lt_or_ge : (a b : ℕ) → (a < b) ⊎ (b ≤ a)
-lt_or_ge a b = elim (dec_le (suc a) b) [ yes h ↦ inl h | no h ↦ inr (omega arith) ]
 
 pub record Found (P : ℕ → Type 0) (n : ℕ) : Type 0 where
   pub at : ℕ

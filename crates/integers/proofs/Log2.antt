@@ -1,7 +1,7 @@
 -- floor(log2 n): 2 ^ log2 n ≤ n < 2 ^ (log2 n + 1), and what the machine counts.
 use Rattle.std.proofs.Common.{◌≡◌, ℕ, zero, suc, ◌+◌, ◌-◌, ◌*◌, ◌/◌, ◌^◌, ◌<◌, ◌≤◌, ltb, refl, ap, ◌∙◌, subst, inl, inr, ⊎_elim, le_trans, le_refl, not-suc-le-zero, not-le_of_lt, arith, pow_mono, le-ltb, lt-ltb}
 use native.Mathlib.Decide.{le_ind}
-use lib.Count.{count_leading_zeros, leading_top, leading_le, leading_length}
+use lib.Count.{count_leading_zeros, leading_top, leading_length}
 use lib.Arith.{bin_ind, half_le}
 use Rattle.integers.specs.Numbers.{pick_n, log_in, log2, Least}
 use Rattle.integers.proofs.Finite.{lt_or_ge}
@@ -55,9 +55,6 @@ log2_leading n h l =
     omega (arith, t.1)
 
 -- ---- the length of a number in bits, by the zeros that the machine counts above its highest one
-pub leading_most : (n : ℕ) → n < 2 ^ 32 → count_leading_zeros 32 n ≤ 32
-leading_most n h = leading_le 32 n
-
 pub length_leading : (n : ℕ) → n < 2 ^ 32 → Least (λ k. n < 2 ^ k) (32 - count_leading_zeros 32 n)
 length_leading n h = go (leading_length 32 n h)
   where

@@ -1,19 +1,17 @@
 -- Remainders by a number W, and inverses modulo a power of 2.
 use Rattle.std.proofs.Common.{◌≡◌, ℕ, zero, suc, ◌+◌, ◌-◌, ◌*◌, ◌/◌, ◌%◌, ◌^◌, ◌<◌, ◌≤◌, sym, ap, ◌∙◌, ap₂, mul-le-mul_right, mod-eq_of_lt, mul_assoc, mul_comm, pow-suc, div-add-mod', mul-one, arith, pow_pos}
 use native.Mathlib.Nat.{zero-mod, add-mul-mod_self_left}
-use lib.Pow.{pow-lt}
+use Rattle.std.proofs.lemmas.Nat.{mul-mod_first, mul-mod_second}
 
 -- equal up to multiples of W
 pub cong_of : (W x y a b : ℕ) → x + W * a ≡ y + W * b → x % W ≡ y % W
 cong_of W x y a b e = sym (add-mul-mod_self_left x W a) ∙ ap (λ (n : ℕ). n % W) e ∙ add-mul-mod_self_left y W b
 
 pub mul_mod_r : (W a b : ℕ) → a * (b % W) % W ≡ a * b % W
-mul_mod_r W a b =
-    let e : a * (b / W * W + b % W) ≡ a * b = ap (λ (n : ℕ). a * n) (div-add-mod' b W) in
-    cong_of W (a * (b % W)) (a * b) (a * (b / W)) 0 (omega arith)
+mul_mod_r W a b = mul-mod_second a b W
 
 pub mul_mod_l : (W a b : ℕ) → a % W * b % W ≡ a * b % W
-mul_mod_l W a b = rw (mul_comm (a % W) b, mul_comm a b) (mul_mod_r W b a)
+mul_mod_l W a b = mul-mod_first a b W
 
 pub cong_r : (W a b c : ℕ) → b % W ≡ c % W → a * b % W ≡ a * c % W
 cong_r W a b c e = sym (mul_mod_r W a b) ∙ ap (λ (n : ℕ). a * n % W) e ∙ mul_mod_r W a c
@@ -98,10 +96,3 @@ mul_halves H h l k m =
     let ev : (v / H * H + v % H) * H ≡ v * H = ap (λ (n : ℕ). n * H) (div-add-mod' v H) in
     let ec : (c / H * H + c % H) * H ≡ c * H = ap (λ (n : ℕ). n * H) (div-add-mod' c H) in
     cong_of (H * H) (l * m + c % H * H) ((h * H + l) * (k * H + m)) (u / H + v / H + c / H + h * k) 0 (omega arith)
-
--- the machine's shift of one
-pub one_shifted : (n : ℕ) → n < 64 → (1 * 2 ^ n) % 18446744073709551616 ≡ 2 ^ n
-one_shifted n h = mod-eq_of_lt (omega (arith, pow-lt {j = 64} h)) ∙ one
-  where
-    one : 1 * 2 ^ n ≡ 2 ^ n
-    one = omega arith

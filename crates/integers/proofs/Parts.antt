@@ -6,39 +6,19 @@
 --   diff a b            a - b; by1 .. by5 prove a law on differences, `simp diff·ring (omega arith)`
 --   zarith              omega's rules for statements on integers
 use Rattle.std.proofs.Common.{◌≡◌, ℕ, zero, suc, ◌+◌, ◌-◌, ◌*◌, ◌<◌, ◌≤◌, min, Bool, true, false, cond, not, T, ltb, ◌↔◌, ℤ, pos, negsuc, ◌+ℤ◌, ◌-ℤ◌, ◌*ℤ◌, neg_ℤ, nat_abs, ◌≤ℤ◌, ◌<ℤ◌, sym, refl, ap, ◌∙◌, subst, arith, le→leb, ltb→lt, lt→ltb, leb→le, nltb→le}
-use lib.Signed.{le_z_yes, lt_z_yes, le_z, lt_z}
-use lib.IntN.{sub_ℕ}
+use borrow.Author.Differences.{le_out, lt_out, sum_is_lem, neg_is, product_is}
 use Rattle.integers.specs.Numbers.{odd_z, half_z}
-
--- the positive and the negative part
-abbrev pub up : ℤ → ℕ
-up (pos n) = n
-up (negsuc n) = zero
-
-abbrev pub down : ℤ → ℕ
-down (pos n) = zero
-down (negsuc n) = suc n
+pub use borrow.Author.Differences.{up, down, same_in as eq_of, at_most_in as le_of, below_in as lt_of}
+pub use Rattle.std.proofs.lemmas.Int.{unsigned_abs-mul as nat_abs-*}
 
 -- a − b, shut
 pub diff : ℕ → ℕ → ℤ
-diff a b = sub_ℕ a b
-
--- two integers are equal if their differences are
-pub eq_of : (x y : ℤ) → up x + down y ≡ up y + down x → x ≡ y
-eq_of (pos a) (pos b) h = ap pos (omega arith)
-eq_of (pos a) (negsuc b) h = absurd (omega arith)
-eq_of (negsuc a) (pos b) h = absurd (omega arith)
-eq_of (negsuc a) (negsuc b) h = ap negsuc (omega arith)
-
-cond_ind : (c : Bool) (x y : ℤ) (P : ℤ → Type 0) → (T c → P x) → (T (not c) → P y) → P (cond c x y)
-cond_ind true x y P f g = f tt
-cond_ind false x y P f g = g tt
+diff a b = pos a -ℤ pos b
 
 -- diff a b has the difference a − b
 pub diff_is : (a b : ℕ) → up (diff a b) + b ≡ a + down (diff a b)
 unfolding diff
-diff_is a b = cond_ind (ltb a b) (negsuc (b - suc a)) (pos (a - b)) (λ z. up z + b ≡ a + down z)
-    (λ t. omega (arith, ltb→lt)) (λ t. omega (arith, nltb→le))
+diff_is a b = omega (arith, sum_is_lem (pos a) (neg_ℤ (pos b)), neg_is (pos b))
 
 pub diff_eq : (a b c d : ℕ) → a + d ≡ c + b → diff a b ≡ diff c d
 diff_eq a b c d h = eq_of (diff a b) (diff c d) (omega (arith, diff_is a b, diff_is c d))
@@ -54,27 +34,16 @@ rep z = eq_of z (diff (up z) (down z)) (omega (arith, diff_is (up z) (down z)))
 
 -- the operations, by the parts
 pub parts-+ : (x y : ℤ) → up (x +ℤ y) + (down x + down y) ≡ up x + up y + down (x +ℤ y)
-unfolding diff
-parts-+ (pos a) (pos b) = omega arith
-parts-+ (pos a) (negsuc b) = omega (arith, diff_is a (suc b))
-parts-+ (negsuc a) (pos b) = omega (arith, diff_is b (suc a))
-parts-+ (negsuc a) (negsuc b) = omega arith
+parts-+ x y = omega (arith, sum_is_lem x y)
 
 pub up_neg : (x : ℤ) → up (neg_ℤ x) ≡ down x
-up_neg (pos zero) = refl
-up_neg (pos (suc n)) = refl
-up_neg (negsuc n) = refl
+up_neg x = (neg_is x).0
 
 pub down_neg : (x : ℤ) → down (neg_ℤ x) ≡ up x
-down_neg (pos zero) = refl
-down_neg (pos (suc n)) = refl
-down_neg (negsuc n) = refl
+down_neg x = (neg_is x).1
 
 pub parts-* : (x y : ℤ) → up (x *ℤ y) + (up x * down y + down x * up y) ≡ up x * up y + down x * down y + down (x *ℤ y)
-parts-* (pos a) (pos b) = omega arith
-parts-* (pos a) (negsuc b) = omega (arith, up_neg (pos (a * suc b)), down_neg (pos (a * suc b)))
-parts-* (negsuc a) (pos b) = omega (arith, up_neg (pos (suc a * b)), down_neg (pos (suc a * b)))
-parts-* (negsuc a) (negsuc b) = omega arith
+parts-* x y = omega (arith, product_is x y)
 
 pub diff_neg : (a b : ℕ) → neg_ℤ (diff a b) ≡ diff b a
 diff_neg a b = eq_of (neg_ℤ (diff a b)) (diff b a) (omega (arith, diff_is a b, diff_is b a, up_neg (diff a b), down_neg (diff a b)))
@@ -103,35 +72,11 @@ diff-* a b c d = eq_of (diff a b *ℤ diff c d) (diff (a * c + b * d) (a * d + b
     go p q r s h k = omega (arith, diff_is (a * c + b * d) (a * d + b * c))
 
 -- ---- the order
-pub le_of : (x y : ℤ) → up x + down y ≤ up y + down x → x ≤ℤ y
-le_of (pos a) (pos b) h = le_z_yes (le→leb a b (omega arith))
-le_of (pos a) (negsuc b) h = absurd (omega arith)
-le_of (negsuc a) (pos b) h = le_z_yes tt
-le_of (negsuc a) (negsuc b) h = le_z_yes (le→leb b a (omega arith))
-
-le_to' : (x y : ℤ) → T (le_z x y) → up x + down y ≤ up y + down x
-le_to' (pos a) (pos b) h = omega (arith, leb→le a b h)
-le_to' (pos a) (negsuc b) h = absurd h
-le_to' (negsuc a) (pos b) h = omega arith
-le_to' (negsuc a) (negsuc b) h = omega (arith, leb→le b a h)
-
 pub le_to : {x y : ℤ} → x ≤ℤ y → up x + down y ≤ up y + down x
-le_to {x} {y} h = le_to' x y h.le
-
-pub lt_of : (x y : ℤ) → up x + down y < up y + down x → x <ℤ y
-lt_of (pos a) (pos b) h = lt_z_yes (lt→ltb a b (omega arith))
-lt_of (pos a) (negsuc b) h = absurd (omega arith)
-lt_of (negsuc a) (pos b) h = lt_z_yes tt
-lt_of (negsuc a) (negsuc b) h = lt_z_yes (lt→ltb b a (omega arith))
-
-lt_to' : (x y : ℤ) → T (lt_z x y) → up x + down y < up y + down x
-lt_to' (pos a) (pos b) h = omega (arith, ltb→lt a b h)
-lt_to' (pos a) (negsuc b) h = absurd h
-lt_to' (negsuc a) (pos b) h = omega arith
-lt_to' (negsuc a) (negsuc b) h = omega (arith, ltb→lt b a h)
+le_to {x} {y} h = le_out x y h
 
 pub lt_to : {x y : ℤ} → x <ℤ y → up x + down y < up y + down x
-lt_to {x} {y} h = lt_to' x y h.lt
+lt_to {x} {y} h = lt_out x y h
 
 pub diff-≤ : (a b c d : ℕ) → (diff a b ≤ℤ diff c d) ↔ (a + d ≤ c + b)
 diff-≤ a b c d = ((λ h. omega (arith, le_to h, diff_is a b, diff_is c d)), (λ h. le_of (diff a b) (diff c d) (omega (arith, diff_is a b, diff_is c d))))
@@ -178,12 +123,6 @@ nat_abs_neg (negsuc n) = refl
 
 pub nat_abs-+ : (x y : ℤ) → nat_abs (x +ℤ y) ≤ nat_abs x + nat_abs y
 nat_abs-+ x y = omega (arith, nat_abs_is x, nat_abs_is y, nat_abs_is (x +ℤ y), parts (x +ℤ y), parts-+ x y)
-
-pub nat_abs-* : (x y : ℤ) → nat_abs (x *ℤ y) ≡ nat_abs x * nat_abs y
-nat_abs-* (pos a) (pos b) = refl
-nat_abs-* (pos a) (negsuc b) = nat_abs_neg (pos (a * suc b))
-nat_abs-* (negsuc a) (pos b) = nat_abs_neg (pos (suc a * b))
-nat_abs-* (negsuc a) (negsuc b) = refl
 
 pub pos-* : (a b : ℕ) → pos (a * b) ≡ pos a *ℤ pos b
 pos-* a b = refl

@@ -2,7 +2,7 @@
 -- a + X p, where X is the first variable, p is over the same variables, and a over the variables after X.
 -- `ring e f ρ tt` proves that e and f have the same value at the variables' values ρ: the polynomial of e − f is all zeros.
 use Rattle.std.proofs.Common.{◌≡◌, ℕ, zero, suc, Bool, true, false, ◌&&◌, T, List, [], ◌∷◌, ℤ, pos, negsuc, ◌+ℤ◌, ◌*ℤ◌, neg_ℤ, sym, refl, ap, ◌∙◌, ap₂, arith}
-use lib.IntN.{pow, one}
+use lib.IntN.{pow, one, +ℤ_assoc}
 use Rattle.integers.proofs.Parts.{by1, by2, by3, by4, by5, eq_of_sub, diff·ring}
 
 infixl 6 ◌⊕◌ ◌⊖◌
@@ -111,9 +111,6 @@ zero_p (a ▹ p) = zero_p a && zero_p p
 l_const : (c x : ℤ) → c +ℤ x *ℤ pos 0 ≡ c
 l_const = by2 (λ c x. c +ℤ x *ℤ pos 0 ≡ c) (λ a b c d. simp diff·ring (omega arith))
 
-l_assoc : (c a r : ℤ) → c +ℤ a +ℤ r ≡ c +ℤ (a +ℤ r)
-l_assoc = by3 (λ c a r. c +ℤ a +ℤ r ≡ c +ℤ (a +ℤ r)) (λ a b c d e f. simp diff·ring (omega arith))
-
 ev_mk : (a p : P) (ρ : List ℤ) → ev (mk a p) ρ ≡ ev a (tail ρ) +ℤ head ρ *ℤ ev p ρ
 unfolding ev
 ev_mk (k c) (k (pos zero)) ρ = sym (l_const c (head ρ))
@@ -125,7 +122,7 @@ ev_mk (a ▹ p) q ρ = refl
 ev_addk : (c : ℤ) (p : P) (ρ : List ℤ) → ev (addk c p) ρ ≡ c +ℤ ev p ρ
 unfolding ev
 ev_addk c (k d) ρ = refl
-ev_addk c (a ▹ p) ρ = ap (λ (z : ℤ). z +ℤ head ρ *ℤ ev p ρ) (ev_addk c a (tail ρ)) ∙ l_assoc c (ev a (tail ρ)) (head ρ *ℤ ev p ρ)
+ev_addk c (a ▹ p) ρ = ap (λ (z : ℤ). z +ℤ head ρ *ℤ ev p ρ) (ev_addk c a (tail ρ)) ∙ +ℤ_assoc c (ev a (tail ρ)) (head ρ *ℤ ev p ρ)
 
 l_addk : (d a r : ℤ) → d +ℤ a +ℤ r ≡ a +ℤ r +ℤ d
 l_addk = by3 (λ d a r. d +ℤ a +ℤ r ≡ a +ℤ r +ℤ d) (λ a b c d e f. simp diff·ring (omega arith))

@@ -1,24 +1,18 @@
--- How large signed numbers are: bounds that omega reads, and that a number fits its width. `mag` is the kit's: n of n and of -(n + 1).
-use Rattle.std.proofs.Common.{◌≡◌, ℕ, suc, ◌+◌, ◌-◌, ◌*◌, ◌%◌, ◌^◌, ◌<◌, ◌≤◌, Bool, true, false, eqb, ℤ, pos, negsuc, ◌-ℤ◌, ◌*ℤ◌, neg_ℤ, nat_abs, refl, ◌∙◌, mul-le-mul, arith, w32, w64, SFits, to_z, of_z, eqb-true}
+-- How large signed numbers are: bounds that omega reads, and that a number fits its width.
+use Rattle.std.proofs.Common.{◌≡◌, ℕ, suc, ◌+◌, ◌-◌, ◌*◌, ◌%◌, ◌^◌, ◌<◌, ◌≤◌, Bool, true, false, ℤ, pos, negsuc, ◌-ℤ◌, ◌*ℤ◌, neg_ℤ, nat_abs, refl, ◌∙◌, mul-le-mul, arith, w32, w64, SFits, to_z, of_z}
 use lib.Bits.{bit_and, and_mask}
-use lib.Signed.{mag}
 use mir.ValLaws.{to_z-of_z}
-use borrow.Author.Rules.{sfits_of}
-use borrow.Author.Tests.{eqb-false}
-use Rattle.integers.specs.Numbers.{Parity, signed_by, odd_z, half_z}
+use Rattle.std.proofs.lemmas.Int.{fits_signed_from_abs}
+use Rattle.integers.specs.Numbers.{signed_by, odd_z, half_z}
 use Rattle.integers.proofs.Parts.{nat_abs-+, nat_abs-*, nat_abs_neg}
 
 -- ---- by nat_abs
-pub mag_le : (z : ℤ) → mag z ≤ nat_abs z
-mag_le (pos n) = omega arith
-mag_le (negsuc n) = omega arith
-
 pub fits64 : (z : ℤ) → nat_abs z < 2 ^ 63 → SFits w64 z
-fits64 z h = sfits_of (omega (arith, mag_le z))
+fits64 z h = fits_signed_from_abs w64 z h
 
 -- what the machine reads back of a small number
 pub back32 : (z : ℤ) → nat_abs z ≤ 2 ^ 30 → to_z w32 (of_z w32 z) ≡ z
-back32 z h = to_z-of_z w32 z (record { sfits = omega (arith, mag_le z) })
+back32 z h = to_z-of_z w32 z (fits_signed_from_abs w32 z (omega arith))
 
 pub back64 : (z : ℤ) → nat_abs z < 2 ^ 63 → to_z w64 (of_z w64 z) ≡ z
 back64 z h = to_z-of_z w64 z (fits64 z h)
@@ -50,15 +44,3 @@ low_bit (negsuc n) f = and_mask (2 ^ 64 - suc n) 1 ∙ even n f.sfits
   where
     even : (n : ℕ) → n < 2 ^ 63 → (2 ^ 64 - suc n) % 2 ≡ 1 - n % 2
     even n h = omega arith
-
-odd_abs : (z : ℤ) → odd_z z ≡ nat_abs z % 2
-odd_abs (pos n) = refl
-odd_abs (negsuc n) = omega arith
-
--- .. and a test of it tells the parity
-pub parity_of : (z : ℤ) (n : ℕ) → n ≡ odd_z z → Parity z (eqb n 1)
-parity_of z n e = go (eqb n 1) refl
-  where
-    go : (b : Bool) → eqb n 1 ≡ b → Parity z b
-    go true h = omega (arith, odd_abs z, eqb-true n 1 h)
-    go false h = let k : (n ≡ 1 → ⊥) = eqb-false n 1 h in omega (arith, odd_abs z, odd_lt z)

@@ -1,67 +1,97 @@
 -- From the reduced state to the answer: which pair is smallest, and when there is none.
-use mathlib.Core.Path.{◌≡◌, refl, sym, ap, ◌∙◌, subst, subst₂}
+use mathlib.Core.Path.{◌≡◌, refl, sym, ap, ap₂, ◌∙◌, subst, subst₂}
 use mathlib.Core.Logic.{◌⊎◌, inl, inr}
-use mathlib.Core.Bool.{Bool, true, false}
+use mathlib.Core.Bool.{true, false}
 use mathlib.Core.List.{List}
-use Prim.Native.Nat.{ℕ, zero, suc, ◌+◌, ◌*◌, ◌%◌, ◌^◌, ◌≤◌, ◌<◌, max}
+use Prim.Native.Nat.{ℕ, zero, suc, ◌+◌, ◌*◌, ◌%◌, ◌^◌, ◌≤◌, ◌<◌}
 use native.Mathlib.Omega.{arith}
 use native.Mathlib.Nat.{mul-mod_right}
 use native.Mathlib.Decide.{dec_le}
 use lib.Dec.{T}
 use lib.IntN.{ℤ, pos, negsuc, neg_ℤ, nat_abs, ◌-ℤ◌, ◌*ℤ◌}
+use lib.Pow.{pow_mono}
 use lib.Signed.{lt_z}
+use mir.Syntax.{w64}
+use mir.Val.{to_z, of_z}
 use borrow.Author.Tests.{ltb-true}
-use Rattle.integers.specs.Numbers.{Decides, Divides}
 use Rattle.integers.proofs.Parts.{nat_abs_neg, nat_abs-*}
+use Rattle.integers.proofs.Sizes.{back64, abs--}
 use Rattle.integers.proofs.Equations.{eq_by, z_sub, z-*, z-+}
 use Rattle.integers.proofs.Ring.{lit, #, neg, ◌⊕◌, ◌⊗◌, ◌⊖◌, ring1, ring4, ring6, ◌≔◌}
 use Rattle.bits.specs.Bits.{value}
 use Rattle.fractions.specs.Pairs.{limit, Inside, Fits, below, NotAfter, Smallest, NoneFits}
+use Rattle.std.specs.Prelude.{Option, Some, None, MatchOption}
+use Rattle.fractions.specs.declared.Fraction.{Fraction}
 use Rattle.fractions.proofs.Lowest.{part}
-use Rattle.reduction.specs.Vectors.{Vect, Fit, Lex}
+use Rattle.reduction.specs.Vectors.{Vect, Fit, Lex, Within}
 use Rattle.reduction.specs.Reduced.{big}
 use Rattle.reduction.proofs.Vectors.{fit_to}
 use Rattle.reduction.proofs.Keys.{no_larger}
 use Rattle.reduction.proofs.States.{At, least, least_before}
 use Rattle.learning.specs.Steps.{flip, Finished}
 
--- ---- what the functions of the end ask
-pub flip_neg : (p q : ℤ) → lt_z q (pos 0) ≡ true → pos 0 -ℤ p ≡ flip p q
-flip_neg p (pos n) e = absurd (let k : n < 0 = ltb-true n 0 e in omega arith)
-flip_neg p (negsuc n) e = ring1 (λ p. # 0 ⊖ p ≔ neg p) tt p
+-- ---- what the end asks
+-- 1 << n
+power_read : (n : ℕ) → n < 61 → 1 * 2 ^ n % 2 ^ 64 ≡ 2 ^ n
+power_read n h = omega (arith, pow_mono {i = n} {j = 60} (omega arith))
 
-pub flip-pos : (p q : ℤ) → lt_z q (pos 0) ≡ false → p ≡ flip p q
-flip-pos p (pos n) e = refl
-flip-pos p (negsuc n) e = absurd (subst T e tt)
-
-pub abs_flip : (p q : ℤ) → nat_abs (flip p q) ≡ nat_abs p
+abs_flip : (p q : ℤ) → nat_abs (flip p q) ≡ nat_abs p
 abs_flip p (pos n) = refl
 abs_flip p (negsuc n) = nat_abs_neg p
 
-module _ (n : ℕ) (p q p' : ℤ) (q' a : ℕ) (t : Bool) (d : Decides (Divides (2 ^ n) (2 * a)) t) (ea : a ≡ nat_abs p) (eq : q' ≡ nat_abs q) where
-  pub finished_whole : t ≡ true → p' ≡ pos a → Finished n p q p' q'
-  finished_whole e ep = record {
-    q_is = eq;
-    p_is = ap nat_abs ep ∙ ea;
-    side = inr (ap (λ (a : ℕ). (2 * a) % 2 ^ n) (sym ea) ∙ subst (Decides (Divides (2 ^ n) (2 * a))) e d);
-    sign = inl (ap below ep);
-  }
+flip_neg : (p q : ℤ) → lt_z q (pos 0) ≡ true → pos 0 -ℤ p ≡ flip p q
+flip_neg p (pos n) e = absurd (let k : n < 0 = ltb-true n 0 e in omega arith)
+flip_neg p (negsuc n) e = ring1 (λ p. # 0 ⊖ p ≔ neg p) tt p
 
-  pub finished_flip : t ≡ false → p' ≡ flip p q → Finished n p q p' q'
-  finished_flip e ep = record {
-    q_is = eq;
-    p_is = ap nat_abs ep ∙ abs_flip p q;
-    side = inl ep;
-    sign = inr (λ k. subst (Decides (Divides (2 ^ n) (2 * a))) e d (ap (λ (a : ℕ). (2 * a) % 2 ^ n) ea ∙ k));
-  }
+flip-pos : (p q : ℤ) → lt_z q (pos 0) ≡ false → p ≡ flip p q
+flip-pos p (pos n) e = refl
+flip-pos p (negsuc n) e = absurd (subst T e tt)
+
+module _ {n : ℕ} {g : Vect} (h : (n < 61) × Within (2 ^ 61) g) {a b : ℕ} (ea : a ≡ nat_abs (to_z w64 (of_z w64 g.p))) (eb : b ≡ nat_abs (to_z w64 (of_z w64 g.q))) where
+  p_back : to_z w64 (of_z w64 g.p) ≡ g.p
+  p_back = back64 g.p (omega arith)
+
+  q_back : to_z w64 (of_z w64 g.q) ≡ g.q
+  q_back = back64 g.q (omega arith)
+
+  -- the test, without what the machine makes of it
+  tested : 2 * a % (1 * 2 ^ n % 2 ^ 64) ≡ (2 * nat_abs g.p) % 2 ^ n
+  tested = ap₂ (λ (x y : ℕ). 2 * x % y) (ea ∙ ap nat_abs p_back) (power_read n h.0)
+
+  pub finished_whole : 2 * a % (1 * 2 ^ n % 2 ^ 64) ≡ 0 → {x p' : ℤ} → p' ≡ to_z w64 (of_z w64 x) → x ≡ pos (nat_abs (to_z w64 (of_z w64 g.p))) → Finished n g.p g.q p' b
+  finished_whole d {x} {p'} ep ex = record { q_is = eb ∙ ap nat_abs q_back; p_is = ap nat_abs p_is; side = inr (sym tested ∙ d); sign = inl (ap below p_is) }
+    where
+      size : x ≡ pos (nat_abs g.p)
+      size = ex ∙ ap (λ (z : ℤ). pos (nat_abs z)) p_back
+
+      p_is : p' ≡ pos (nat_abs g.p)
+      p_is = ep ∙ back64 x (omega (arith, ap nat_abs size)) ∙ size
+
+  finished_flip : (2 * a % (1 * 2 ^ n % 2 ^ 64) ≡ 0 → ⊥) → {p' : ℤ} → p' ≡ flip g.p g.q → Finished n g.p g.q p' b
+  finished_flip d e = record { q_is = eb ∙ ap nat_abs q_back; p_is = ap nat_abs e ∙ abs_flip g.p g.q; side = inl e; sign = inr (λ k. d (tested ∙ k)) }
+
+  pub finished_turned : (2 * a % (1 * 2 ^ n % 2 ^ 64) ≡ 0 → ⊥) → lt_z (to_z w64 (of_z w64 g.q)) (pos 0) ≡ true
+      → {p' : ℤ} → p' ≡ to_z w64 (of_z w64 (pos 0 -ℤ to_z w64 (of_z w64 g.p))) → Finished n g.p g.q p' b
+  finished_turned d l {p'} e = finished_flip d (rw p_back at e ∙ back64 (pos 0 -ℤ g.p) (omega (arith, abs-- (pos 0) g.p {a = 0} {b = 2 ^ 61} (omega arith) (omega arith))) ∙ flip_neg g.p g.q (rw q_back at l))
+
+  pub finished_kept : (2 * a % (1 * 2 ^ n % 2 ^ 64) ≡ 0 → ⊥) → lt_z (to_z w64 (of_z w64 g.q)) (pos 0) ≡ false → {p' : ℤ} → p' ≡ to_z w64 (of_z w64 g.p) → Finished n g.p g.q p' b
+  finished_kept d l e = finished_flip d (e ∙ p_back ∙ flip-pos g.p g.q (rw q_back at l))
+
+-- a finished pair is inside the limits where the least vector is
+module _ (bytes : List ℕ) (n : ℕ) {f g : Vect} (R : At bytes n f g) {p : ℤ} {q : ℕ} (F : Finished n g.p g.q p q) where
+  finished_odd : q % 2 ≡ 1
+  finished_odd = ap (λ (m : ℕ). m % 2) F.q_is ∙ R.base.odd_g
+
+  finished_inside : nat_abs g.p ≤ limit → nat_abs g.q ≤ limit → Inside p q
+  finished_inside hp hq = record { odd = finished_odd; some = omega (arith, finished_odd); q_most = omega (arith, F.q_is); p_most = omega (arith, F.p_is) }
 
 -- ---- none inside: the least is too large
-pub none_large : (bytes : List ℕ) (n : ℕ) {f g : Vect} → At bytes n f g → (max (nat_abs g.p) (nat_abs g.q) ≤ limit → ⊥) → NoneFits n (value bytes n)
-none_large bytes n {f} {g} R h p q i e =
+pub none_large : (bytes : List ℕ) (n : ℕ) {f g : Vect} → At bytes n f g → {p' : ℤ} {q' : ℕ} → Finished n g.p g.q p' q' → (Inside p' q' → ⊥) → NoneFits n (value bytes n)
+none_large bytes n {f} {g} R F h p q i e =
     let hp : nat_abs p < big = omega arith in
     let hq : q < big = omega arith in
     let s = no_larger big g.p g.q p (pos q) hp hq (least R p (pos q) e.0 i.odd e.1) in
-    omega arith
+    h (finished_inside bytes n R F (omega arith) (omega arith))
 
 -- ---- the smallest: the least vector, with its sign
 fit_flip : (A T p q r : ℤ) → Fit A T (record { p = p; q = q; r = r }) → (s : ℤ) × Fit A T (record { p = flip p q; q = pos (nat_abs q); r = s })
@@ -109,16 +139,9 @@ signs D T a (negsuc b) (pos d) t s h k ea e (inr never) = absurd (never (ap (λ 
     two : 2 * a ≡ d + suc b
     two = omega arith
 
-pub smallest : (bytes : List ℕ) (n : ℕ) {f g : Vect} → At bytes n f g → nat_abs g.p ≤ limit → nat_abs g.q ≤ limit
-    → (p : ℤ) (q : ℕ) → Finished n g.p g.q p q → Smallest n (value bytes n) p q
-smallest bytes n {f} {g} R hp hq p q F = record { inside = in_limits; fits = fit; first = first }
+pub smallest : (bytes : List ℕ) (n : ℕ) {f g : Vect} → At bytes n f g → (p : ℤ) (q : ℕ) → Finished n g.p g.q p q → Inside p q → Smallest n (value bytes n) p q
+smallest bytes n {f} {g} R p q F i = record { inside = i; fits = fit; first = first }
   where
-    odd : q % 2 ≡ 1
-    odd = ap (λ (m : ℕ). m % 2) F.q_is ∙ R.base.odd_g
-
-    in_limits : Inside p q
-    in_limits = record { odd = odd; some = omega (arith, odd); q_most = omega (arith, F.q_is); p_most = omega (arith, F.p_is) }
-
     Fitted : ℤ → ℕ → ℤ → Type 0
     Fitted x m s = Fit (pos (value bytes n)) (pos (2 ^ n)) (record { p = x; q = pos m; r = s })
 
@@ -149,3 +172,9 @@ smallest bytes n {f} {g} R hp hq p q F = record { inside = in_limits; fits = fit
         to_order p q p' q' (subst₂ (λ (a b : ℕ). Lex a b (nat_abs p') q') (sym F.p_is) (sym F.q_is) b)
         (λ ep eq. signs (pos (value bytes n) *ℤ pos q) (2 ^ n) (nat_abs g.p) p p' fit.0 e.0 fit.1
         (subst (λ (m : ℕ). pos (value bytes n) *ℤ pos m -ℤ p' ≡ pos (2 ^ n) *ℤ e.0) (sym eq) e.1) F.p_is ep F.sign)
+
+-- the least vector's pair, tested, is the answer
+pub searched : (bytes : List ℕ) (n : ℕ) {f g : Vect} → At bytes n f g → {p : ℤ} {q : ℕ} → Finished n g.p g.q p q
+    → (r : Option Fraction) → MatchOption r (Inside p q → ⊥) (λ y. (y.p ≡ p) × (y.q ≡ q) × Inside y.p y.q) → MatchOption r (NoneFits n (value bytes n)) (λ y. Smallest n (value bytes n) y.p y.q)
+searched bytes n R F None h = none_large bytes n R F h
+searched bytes n {g = g} R F (Some y) h = smallest bytes n R y.p y.q (subst₂ (λ (p : ℤ) (q : ℕ). Finished n g.p g.q p q) (sym h.0) (sym h.1) F) h.2

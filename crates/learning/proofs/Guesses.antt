@@ -5,19 +5,25 @@
 --   guess_only                  a pair inside the limits that fits the first 61 bits is the guess, as a fraction; the guess is inside, and its q is odd
 --   guess_smallest              a guess that fits all n bits is the answer
 --   guess_none                  otherwise no pair inside fits
-use mathlib.Core.Path.{◌≡◌, refl, sym, ap, ◌∙◌, subst}
-use mathlib.Core.Bool.{Bool, true, false, not}
+use mathlib.Core.Path.{◌≡◌, refl, sym, ap, ◌∙◌, subst, subst₂}
+use mathlib.Core.Bool.{not-not, Bool, true, false, not}
 use mathlib.Core.List.{List, [], ◌∷◌}
 use Prim.Native.Nat.{ℕ, zero, suc, ◌+◌, ◌*◌, ◌/◌, ◌%◌, ◌^◌, ◌≤◌, ◌<◌}
 use native.Mathlib.Omega.{arith}
 use native.Mathlib.Nat.{div-add-mod', mul-le-mul_left}
+use mir.Syntax.{w64}
+use mir.Val.{to_z, of_z}
+use Rattle.std.proofs.lemmas.Int.{to_z_pos}
 use lib.Dec.{T}
 use lib.Pow.{pow_pos}
-use lib.IntN.{ℤ, pos, negsuc, neg_ℤ, nat_abs, ◌+ℤ◌, ◌-ℤ◌, ◌*ℤ◌}
-use Rattle.integers.specs.Numbers.{Coprime, signed_by}
+use lib.IntN.{neg_ℤ-neg_ℤ, ℤ, pos, negsuc, neg_ℤ, nat_abs, ◌+ℤ◌, ◌-ℤ◌, ◌*ℤ◌}
+use Rattle.std.specs.Prelude.{MatchOption}
+use Rattle.std.specs.Bool.{then_some}
+use Rattle.fractions.specs.declared.Fraction.{Fraction}
+use Rattle.integers.specs.Numbers.{Coprime, Decides, signed_by}
 use Rattle.integers.proofs.Parts.{eq_to, parts-+, parts--, parts-*, nat_abs_is, nat_abs-*, nat_abs_neg, eq_of_sub}
 use Rattle.integers.proofs.Equations.{eq_by, z_sub, z-*, z-+}
-use Rattle.integers.proofs.Sizes.{abs--, abs-*, signed_size}
+use Rattle.integers.proofs.Sizes.{back64, abs--, abs-*, signed_size}
 use Rattle.integers.proofs.Ring.{var, lit, #, neg, ◌⊕◌, ◌⊗◌, ◌⊖◌, ring, ring1, ring2, ring3, ring4, ring6, ◌≔◌, ring11}
 use Rattle.bits.specs.Bits.{value}
 use Rattle.fractions.specs.Pairs.{limit, Inside, Fits, Smallest, NoneFits, SameFraction}
@@ -25,7 +31,7 @@ use Rattle.fractions.proofs.Same.{cancel, fits_same}
 use Rattle.fractions.proofs.Lowest.{odd_left, power_coprime}
 use Rattle.fractions.proofs.Order.{smallest_certified}
 use Rattle.fractions.proofs.Expansion.{fits_digits}
-use Rattle.learning.specs.Steps.{Traced, Guess}
+use Rattle.learning.specs.Steps.{Traced, Guess, Guessed}
 
 -- ---- a turn of Euclid's algorithm
 pub traced_start : (A : ℕ) → Traced A (2 ^ 61) A 0 1 false
@@ -52,14 +58,10 @@ signed_step false r₀ r₁ z r e = eq_by (z-* (negsuc 0) (z_sub (ap pos e))) (r
 sum_step : (r₀ r₁ t₀ t₁ z r D : ℕ) → z * r₁ + r ≡ r₀ → t₁ * r₀ + t₀ * r₁ ≡ D → (t₀ + z * t₁) * r₁ + t₁ * r ≡ D
 sum_step r₀ r₁ t₀ t₁ z r D e h = omega (arith, ap (λ (n : ℕ). t₁ * n) e)
 
-not_not : (b : Bool) → b ≡ not (not b)
-not_not true = refl
-not_not false = refl
-
 pub traced_step : {A r₀ r₁ t₀ t₁ : ℕ} {minus : Bool} → Traced A r₀ r₁ t₀ t₁ minus → limit < r₁ → Traced A r₁ (r₀ % r₁) t₁ (t₀ + r₀ / r₁ * t₁) (not minus)
 traced_step {A} {r₀} {r₁} {t₀} {t₁} {minus} h l = record {
   sum = sum_step r₀ r₁ t₀ t₁ (r₀ / r₁) (r₀ % r₁) (2 ^ 61) (div-add-mod' r₀ r₁) h.sum;
-  last = subst (λ (b : Bool). Fits 61 A (signed_by b r₁) t₁) (not_not minus) h.fits;
+  last = subst (λ (b : Bool). Fits 61 A (signed_by b r₁) t₁) (sym (not-not minus)) h.fits;
   fits = (
     h.last.0 +ℤ pos (r₀ / r₁) *ℤ h.fits.0,
     fits_step (pos A) (pos (2 ^ 61)) (signed_by (not minus) r₀) (signed_by minus r₁) (signed_by (not minus) (r₀ % r₁)) (pos t₀) (pos t₁) (pos (r₀ / r₁)) h.last.0 h.fits.0
@@ -74,6 +76,16 @@ traced_room {A} {r₀} {r₁} {t₀} {t₁} h s = go (t₀ + r₀ / r₁ * t₁)
   where
     go : (t m : ℕ) → t * r₁ + m ≡ 2 ^ 61 → t ≤ 2 ^ 61
     go t m h = omega (arith, mul-le-mul_left t s)
+
+-- a turn that stops at a remainder with the other sign
+pub guessed_minus : {A r₀ r t₀ t : ℕ} → Traced A r₀ r t₀ t true → r ≤ limit → Guessed A (to_z w64 (of_z w64 (pos 0 -ℤ to_z w64 r))) t
+guessed_minus {A} {r₀} {r} {t₀} {t} h l = record { r = r; minus = true; p_is = read; guess = record { r₀ = r₀; t₀ = t₀; traced = h; small = l } }
+  where
+    value_is : pos 0 -ℤ to_z w64 r ≡ neg_ℤ (pos r)
+    value_is = rw (to_z_pos w64 r (omega arith)) (ring1 (λ x. # 0 ⊖ x ≔ neg x) tt (pos r))
+
+    read : to_z w64 (of_z w64 (pos 0 -ℤ to_z w64 r)) ≡ neg_ℤ (pos r)
+    read = back64 _ (omega (arith, ap nat_abs value_is, nat_abs_neg (pos r))) ∙ value_is
 
 -- ---- the stop
 -- a pair that fits, by the two vectors (-r₀, t₀) and (r₁, t₁), which span all that fits
@@ -156,9 +168,6 @@ turned : (A T x y y' s : ℤ) → A *ℤ x -ℤ y ≡ T *ℤ s → y' ≡ neg_�
 turned A T x y y' s h e = eq_by (z-+ (z-* (negsuc 0) (z_sub h)) (z-* (negsuc 0) (z_sub e)))
     (ring6 (λ A T x y y' s. neg A ⊗ x ⊖ y' ≔ T ⊗ neg s ⊕ (lit (negsuc 0) ⊗ (A ⊗ x ⊖ y ⊖ T ⊗ s) ⊕ lit (negsuc 0) ⊗ (y' ⊖ neg y))) tt A T x y y' s)
 
-neg_neg : (x : ℤ) → x ≡ neg_ℤ (neg_ℤ x)
-neg_neg = ring1 (λ x. x ≔ neg (neg x)) tt
-
 pub guess_only : (A r t : ℕ) (minus : Bool) → Guess A r t minus → (p : ℤ) (q : ℕ) → Inside p q → Fits 61 A p q → Only p q (signed_by minus r) t
 guess_only A r t false g p q i f =
     only_plus (pos A) p q g.r₀ r g.t₀ t f.0 g.traced.last.0 g.traced.fits.0 f.1 g.traced.last.1 g.traced.fits.1 g.traced.sum g.traced.large g.small i
@@ -171,7 +180,7 @@ guess_only A r t true g p q i f = record { odd = o.odd; most = o.most; same = ba
     o = only_plus (neg_ℤ (pos A)) (neg_ℤ p) q g.r₀ r g.t₀ t (neg_ℤ f.0) (neg_ℤ g.traced.last.0) (neg_ℤ g.traced.fits.0)
         (turned (pos A) (pos (2 ^ 61)) (pos q) p (neg_ℤ p) f.0 f.1 refl)
         (turned (pos A) (pos (2 ^ 61)) (pos g.t₀) (pos g.r₀) (neg_ℤ (pos g.r₀)) g.traced.last.0 g.traced.last.1 refl)
-        (turned (pos A) (pos (2 ^ 61)) (pos t) (neg_ℤ (pos r)) (pos r) g.traced.fits.0 g.traced.fits.1 (neg_neg (pos r)))
+        (turned (pos A) (pos (2 ^ 61)) (pos t) (neg_ℤ (pos r)) (pos r) g.traced.fits.0 g.traced.fits.1 (sym (neg_ℤ-neg_ℤ (pos r))))
         g.traced.sum g.traced.large g.small
         (record { odd = i.odd; some = i.some; q_most = i.q_most; p_most = omega (arith, nat_abs_neg p, i.p_most) })
 
@@ -194,3 +203,21 @@ module _ (bytes : List ℕ) (n r t : ℕ) (minus : Bool) (g : Guess (value bytes
   guess_none never p q i f =
       let o = guess_only (value bytes 61) r t minus g p q i (fits_fewer bytes 61 n p q i.odd l f) in
       never o.odd o.most (fits_same n (value bytes n) p q (signed_by minus r) t i.odd o.same f)
+
+-- the guess as a pair: none where it is outside the limits, or does not fit
+module _ (bytes : List ℕ) (n : ℕ) (l : 61 ≤ n) {a : ℕ} (ea : a ≡ value bytes 61) {p : ℤ} {q : ℕ} (G : Guessed a p q) where
+  guess : Guess (value bytes 61) G.r q G.minus
+  guess = subst (λ (a : ℕ). Guess a G.r q G.minus) ea G.guess
+
+  pub guessed_none : (Inside p q → ⊥) → NoneFits n (value bytes n)
+  guessed_none h = guess_none bytes n G.r q G.minus guess l (λ o m f. h (subst (λ (p : ℤ). Inside p q) (sym G.p_is) (guess_inside bytes n G.r q G.minus guess l o m)))
+
+  pub guessed : {y : Fraction} → (y.p ≡ p) × (y.q ≡ q) × Inside y.p y.q → (b : Bool) → Decides (Fits n (value bytes n) y.p y.q) b
+      → MatchOption (then_some b y) (NoneFits n (value bytes n)) (λ x. Smallest n (value bytes n) x.p x.q)
+  guessed {y} h true f = go (h.0 ∙ G.p_is) h.1 f
+    where
+      go : y.p ≡ signed_by G.minus G.r → y.q ≡ q → Fits n (value bytes n) y.p y.q → Smallest n (value bytes n) y.p y.q
+      go ep eq f = subst₂ (λ (p : ℤ) (q : ℕ). Smallest n (value bytes n) p q) (sym ep) (sym eq)
+          (guess_smallest bytes n G.r q G.minus guess l (omega (arith, h.2.odd)) (omega (arith, h.2.q_most)) (subst₂ (λ (p : ℤ) (q : ℕ). Fits n (value bytes n) p q) ep eq f))
+  guessed {y} h false never =
+      guess_none bytes n G.r q G.minus guess l (λ o m f. never (subst₂ (λ (p : ℤ) (q : ℕ). Fits n (value bytes n) p q) (sym (h.0 ∙ G.p_is)) (sym h.1) f))

@@ -6,21 +6,23 @@
 --   learned_lowest    the answer is in lowest terms
 --   learned_settled   where 2 size² < 2^n, every pair inside the limits that fits and is no larger is this same pair
 --   learned_emits     the answer's expansion begins with the burst's bits
-use mathlib.Core.Path.{◌≡◌, refl, sym, ap, subst}
+use mathlib.Core.Path.{◌≡◌, refl, sym, ap, ◌∙◌, subst}
 use mathlib.Core.List.{List}
-use Prim.Native.Nat.{ℕ, ◌+◌, ◌*◌, ◌%◌, ◌^◌, ◌≤◌, ◌<◌}
+use Prim.Native.Nat.{ℕ, zero, suc, ◌+◌, ◌*◌, ◌%◌, ◌^◌, ◌≤◌, ◌<◌}
 use native.Mathlib.Omega.{arith}
 use lib.Pow.{pow_mono}
 use lib.IntN.{ℤ, nat_abs}
 use Rattle.bits.specs.Bits.{bit_at, value}
 use Rattle.bits.proofs.Values.{value_agree}
-use Rattle.fractions.specs.Pairs.{Inside, Fits, size, Smallest, LowestTerms}
+use Rattle.std.specs.Prelude.{Option, Some, None, MatchOption, Result, Ok, Err, ok_or}
+use Rattle.fractions.specs.declared.Fraction.{Fraction}
+use Rattle.fractions.specs.Pairs.{Inside, Fits, size, Smallest, NoneFits, LowestTerms}
 use Rattle.fractions.specs.Expansion.{digit_at, digits_to}
 use Rattle.fractions.proofs.Order.{smallest_unique, smallest_lowest, smallest_settled, smallest_recovered}
 use Rattle.fractions.proofs.Expansion.{expansion_fits, fits_digits}
-use Rattle.learning.specs.Learning.{number_of, p_of, q_of, Enough, Learns, answer, too_large, too_few, none}
-use Rattle.learning.specs.declared.Learned.{Learned}
-use Rattle.learning.specs.declared.Learned.TheVariants.{Answer, CountTooLarge, TooFewBytes, NoneInside}
+use Rattle.learning.specs.Learning.{refusal_number, number_of, p_of, q_of, Enough, Learns, answer, too_large, too_few, none}
+use Rattle.learning.specs.declared.Refusal.{Refusal}
+use Rattle.learning.specs.declared.Refusal.TheVariants.{CountTooLarge, TooFewBytes, NoneInside}
 
 -- ---- two answers are the same
 pub learns_unique : (bytes : List ℕ) (count m n : ℕ) (p p' : ℤ) (q q' : ℕ) → Learns bytes count m p q → Learns bytes count n p' q' → (m ≡ n) × (p ≡ p') × (q ≡ q')
@@ -42,32 +44,45 @@ learns_unique bytes count m n p p' q q' (none e f) (too_few l h) = absurd (omega
 learns_unique bytes count m n p p' q q' (none e f) (none e' f') = (refl, refl, refl)
 
 -- an answer is its numbers
-same_answer : (x y : Learned) → number_of x ≡ number_of y → p_of x ≡ p_of y → q_of x ≡ q_of y → x ≡ y
-same_answer (Answer x) (Answer y) e ep eq = ap Answer (λ i. record { p = ep i; q = eq i })
-same_answer (Answer x) CountTooLarge e ep eq = absurd (omega arith)
-same_answer (Answer x) TooFewBytes e ep eq = absurd (omega arith)
-same_answer (Answer x) NoneInside e ep eq = absurd (omega arith)
-same_answer CountTooLarge (Answer y) e ep eq = absurd (omega arith)
-same_answer CountTooLarge CountTooLarge e ep eq = refl
-same_answer CountTooLarge TooFewBytes e ep eq = absurd (omega arith)
-same_answer CountTooLarge NoneInside e ep eq = absurd (omega arith)
-same_answer TooFewBytes (Answer y) e ep eq = absurd (omega arith)
-same_answer TooFewBytes CountTooLarge e ep eq = absurd (omega arith)
-same_answer TooFewBytes TooFewBytes e ep eq = refl
-same_answer TooFewBytes NoneInside e ep eq = absurd (omega arith)
-same_answer NoneInside (Answer y) e ep eq = absurd (omega arith)
-same_answer NoneInside CountTooLarge e ep eq = absurd (omega arith)
-same_answer NoneInside TooFewBytes e ep eq = absurd (omega arith)
-same_answer NoneInside NoneInside e ep eq = refl
+refusal_of : ℕ → Refusal
+refusal_of (suc zero) = CountTooLarge
+refusal_of (suc (suc zero)) = TooFewBytes
+refusal_of _ = NoneInside
+
+refusal_is : (e : Refusal) → e ≡ refusal_of (refusal_number e)
+unfolding refusal_of
+refusal_is CountTooLarge = refl
+refusal_is TooFewBytes = refl
+refusal_is NoneInside = refl
+
+no_zero : (e : Refusal) → 0 ≡ refusal_number e → ⊥
+no_zero CountTooLarge h = omega arith
+no_zero TooFewBytes h = omega arith
+no_zero NoneInside h = omega arith
+
+same_answer : (x y : Result Fraction Refusal) → number_of x ≡ number_of y → p_of x ≡ p_of y → q_of x ≡ q_of y → x ≡ y
+same_answer (Ok x) (Ok y) e ep eq = ap Ok (λ i. record { p = ep i; q = eq i })
+same_answer (Ok x) (Err d) e ep eq = absurd (no_zero d e)
+same_answer (Err d) (Ok y) e ep eq = absurd (no_zero d (sym e))
+same_answer (Err c) (Err d) e ep eq = ap Err (refusal_is c ∙ ap refusal_of e ∙ sym (refusal_is d))
 
 -- what the contract says of a result
-abbrev pub Meets : List ℕ → ℕ → Learned → Type 0
+abbrev pub Meets : List ℕ → ℕ → Result Fraction Refusal → Type 0
 Meets bytes count x = Learns bytes count (number_of x) (p_of x) (q_of x)
 
-pub learned_unique : (bytes : List ℕ) (count : ℕ) (x y : Learned) → Meets bytes count x → Meets bytes count y → x ≡ y
+pub learned_unique : (bytes : List ℕ) (count : ℕ) (x y : Result Fraction Refusal) → Meets bytes count x → Meets bytes count y → x ≡ y
 learned_unique bytes count x y h k =
     let u = learns_unique bytes count (number_of x) (number_of y) (p_of x) (p_of y) (q_of x) (q_of y) h k in
     same_answer x y u.0 u.1 u.2
+
+-- ---- the fraction that was found, or none, is the answer
+pub learned : (bytes : List ℕ) (count : ℕ) → Enough bytes count → {found r : Option Fraction} → MatchOption r (NoneFits count (value bytes count)) (λ x. Smallest count (value bytes count) x.p x.q)
+    → found ≡ r → {answer : Result Fraction Refusal} → answer ≡ ok_or found NoneInside → Meets bytes count answer
+learned bytes count e {r = r} h ef ea = subst (Meets bytes count) (sym (ea ∙ ap (λ (o : Option Fraction). ok_or o NoneInside) ef)) (go r h)
+  where
+    go : (r : Option Fraction) → MatchOption r (NoneFits count (value bytes count)) (λ x. Smallest count (value bytes count) x.p x.q) → Meets bytes count (ok_or r NoneInside)
+    go (Some x) s = answer e s
+    go None f = none e f
 
 -- ---- bits past the count and extra bytes have no effect
 pub learns_agree : (l m : List ℕ) (count n : ℕ) (p : ℤ) (q : ℕ) → Enough l count → Enough m count → ((i : ℕ) → i < count → bit_at l i ≡ bit_at m i)

@@ -1,33 +1,32 @@
 -- What `learn` answers for the first `count` bits of bytes, by the document's numbers for no.
 --
---   number_of r, p_of r, q_of r     the number, p and q of each case of `Learned`; "Any other number that its answer has room for is 0"
+--   refusal_number e             the number of each `Refusal`
+--   number_of r, p_of r, q_of r  the number, p and q of an answer; "Any other number that its answer has room for is 0"
 --   longest                      "A burst has 0 to 4,096 bits"
 --   Enough bytes count           the burst is no longer, and the bytes hold it
 --   Learns bytes count number p q  the table of refusals, in its order "Learn: 1, 2, 3", and 0 with the smallest fraction
 -- Bits past the count and extra bytes have no effect: `value bytes count` alone is read (law `learns_agree`).
-use Rattle.std.specs.Prelude.{List, ℕ, ◌*◌, ◌≤◌, ◌<◌, ℤ, pos, length}
+use Rattle.std.specs.Prelude.{List, ℕ, ◌*◌, ◌≤◌, ◌<◌, ℤ, pos, length, Result}
 use Rattle.bits.specs.Bits.{value}
+use Rattle.refusals.specs.Refusals as refusals
 use Rattle.fractions.specs.Pairs.{Smallest, NoneFits}
-use Rattle.learning.specs.declared.Learned.{Learned}
-use Rattle.learning.specs.declared.Learned.TheVariants.{Answer, CountTooLarge, TooFewBytes, NoneInside}
+use Rattle.fractions.specs.declared.Fraction.{Fraction}
+use Rattle.learning.specs.declared.Refusal.{Refusal}
+use Rattle.learning.specs.declared.Refusal.TheVariants.{CountTooLarge, TooFewBytes, NoneInside}
 
-abbrev pub number_of : Learned → ℕ
-number_of (Answer x) = 0
-number_of CountTooLarge = 1
-number_of TooFewBytes = 2
-number_of NoneInside = 3
+abbrev pub refusal_number : Refusal → ℕ
+refusal_number CountTooLarge = 1
+refusal_number TooFewBytes = 2
+refusal_number NoneInside = 3
 
-abbrev pub p_of : Learned → ℤ
-p_of (Answer x) = x.p
-p_of CountTooLarge = pos 0
-p_of TooFewBytes = pos 0
-p_of NoneInside = pos 0
+abbrev pub number_of : Result Fraction Refusal → ℕ
+number_of r = refusals.number_of refusal_number r
 
-abbrev pub q_of : Learned → ℕ
-q_of (Answer x) = x.q
-q_of CountTooLarge = 0
-q_of TooFewBytes = 0
-q_of NoneInside = 0
+abbrev pub p_of : Result Fraction Refusal → ℤ
+p_of r = refusals.field_of (pos 0) (λ (x : Fraction). x.p) r
+
+abbrev pub q_of : Result Fraction Refusal → ℕ
+q_of r = refusals.field_of 0 (λ (x : Fraction). x.q) r
 
 abbrev pub longest : ℕ
 longest = 4096

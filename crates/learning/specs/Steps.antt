@@ -4,6 +4,7 @@
 --   Finished n p q p' q'  (p', q') is (p, q) or its negative with q positive; p' is not negative where both signs fit
 --   Traced A r₀ r t₀ t m  a turn of Euclid's algorithm on 2^61 and A: remainders r₀ and r with their cofactors t₀ and t, and the sign of r
 --   Guess A r t m         its end: r is the first remainder of at most the limit
+--   Guessed A p q         the same of a pair: p is r with its sign, q its cofactor
 --   Carried bytes i p q r the pair fits the first i bits, and r is what is left: p = A q + 2^i r
 use Rattle.std.specs.Prelude.{◌≡◌, Bool, not, ◌⊎◌, List, ℕ, ◌+◌, ◌*◌, ◌%◌, ◌^◌, ◌≤◌, ◌<◌, ℤ, pos, negsuc, neg_ℤ, nat_abs, ◌+ℤ◌, ◌*ℤ◌}
 use Rattle.integers.specs.Numbers.{signed_by}
@@ -33,6 +34,12 @@ pub record Guess (A r t : ℕ) (minus : Bool) : Type 0 where
   pub t₀ : ℕ
   pub traced : Traced A r₀ r t₀ t minus
   pub small : r ≤ limit
+
+pub record Guessed (A : ℕ) (p : ℤ) (q : ℕ) : Type 0 where
+  pub r : ℕ
+  pub minus : Bool
+  pub p_is : p ≡ signed_by minus r
+  pub guess : Guess A r q minus
 
 -- ---- the tail
 pub record Carried (bytes : List ℕ) (i : ℕ) (p : ℤ) (q : ℕ) (r : ℤ) : Type 0 where

@@ -1,81 +1,36 @@
-// The end: is the least vector inside the limits, and with which sign is it the answer?
-ghost use Rattle.std.specs.Prelude.{◌≡◌, ◌*◌, ◌^◌, ◌≤◌, ◌<◌, max, pos, nat_abs};
-ghost use Rattle.integers.specs.Numbers.{Decides, Divides};
-ghost use Rattle.fractions.specs.Pairs.{limit};
+// The end: with which sign is the least vector the answer, and is a pair inside the limits?
+ghost use Rattle.std.specs.Prelude.{◌≡◌, ◌^◌, ◌<◌, MatchOption};
+ghost use Rattle.fractions.specs.Pairs.{Inside};
 ghost use Rattle.reduction.specs.Vectors.{vect, Within};
-ghost use Rattle.learning.specs.Steps.{flip, Finished};
+ghost use Rattle.learning.specs.Steps.{Finished};
 
-use integers::signed::narrow;
+use fractions::{Fraction, Ratio};
+use reduction::Vector;
 
-const LIMIT: u64 = fractions::LIMIT as u64;
-
-pub fn held(g: reduction::Vector) -> bool
-    requires { Within (2 ^ 61) (vect g) }
-    ensures { Decides (max (nat_abs g.p) (nat_abs g.q) ≤ limit) result }
-{
-    reduction::order::larger(integers::magnitude(g.p), integers::magnitude(g.q)) <= LIMIT
-}
-
-// Does 2^n divide 2 a? Then p and -p of that size both fit, or neither.
-fn twofold(n: usize, a: u64) -> bool
-    requires { (n < 61) × (a ≤ limit) }
-    ensures { Decides (Divides (2 ^ n) (2 * a)) result }
-{
-    2 * a % (1 << n) == 0
-}
-
-fn natural(x: u64) -> i32
-    requires { x ≤ limit }
-    ensures { result ≡ pos x }
-{
-    x as i32
-}
-
-fn short(x: u64) -> u32
-    requires { x ≤ limit }
-    ensures { result ≡ x }
-{
-    x as u32
-}
-
-// p with the sign that makes q positive.
-fn flipped(p: i64, q: i64) -> i64
-    requires { nat_abs p ≤ limit }
-    ensures { result ≡ flip p q }
-{
-    if q < 0 {
-        integers::signed::sub(0, p)
-    } else {
-        p
-    }
-}
-
-pub fn fraction(p: i64, q: usize) -> fractions::Fraction
-    requires { (nat_abs p ≤ limit) × (q ≤ limit) }
-    ensures { (result.p ≡ p) × (result.q ≡ q) }
-{
-    fractions::Fraction {
-        p: narrow(p),
-        q: short(q as u64),
-    }
-}
-
-// The pair with q positive; where p and -p both fit, the written rule takes p not negative.
-pub fn finish(g: reduction::Vector, n: usize) -> fractions::Fraction
-    requires { (n < 61) × (nat_abs g.p ≤ limit) × (nat_abs g.q ≤ limit) }
+// The pair with q positive; where p and -p both fit, the written rule takes p not negative. Both fit, or neither, where 2^n divides 2 |p|.
+pub fn finish(g: Vector, n: usize) -> Ratio
+    requires { (n < 61) × Within (2 ^ 61) (vect g) }
     ensures { Finished n g.p g.q result.p result.q }
 {
-    let a = integers::magnitude(g.p);
-    let q = short(integers::magnitude(g.q));
-    if twofold(n, a) {
-        fractions::Fraction {
-            p: natural(a),
-            q: q,
-        }
+    let p = if 2 * g.p.unsigned_abs() % (1 << n) == 0 {
+        g.p.abs()
+    } else if g.q < 0 {
+        -g.p
     } else {
-        fractions::Fraction {
-            p: narrow(flipped(g.p, g.q)),
-            q: q,
-        }
+        g.p
+    };
+    Ratio {
+        p,
+        q: g.q.unsigned_abs(),
     }
+}
+
+// The pair, if it is inside the limits.
+pub fn inside(x: Ratio) -> Option<Fraction>
+    ensures { MatchOption result (Inside x.p x.q → ⊥) (λ y. (y.p ≡ x.p) × (y.q ≡ x.q) × Inside y.p y.q) }
+{
+    let p = i32::try_from(x.p).ok()?;
+    let q = u32::try_from(x.q).ok()?;
+    let pair = Fraction { p, q };
+    pair.is_inside().then_some(pair)
 }

@@ -4,76 +4,77 @@
 // Euclid's algorithm on the first 61 bits (guess) is right if it fits them all (tail), and if it is outside the limits or does not fit, no pair does.
 #![tactic(auto)]
 
-ghost use Rattle.std.specs.Prelude.{◌≤◌, ◌<◌};
-ghost use Rattle.learning.specs.Learning.{number_of, p_of, q_of, Enough, Learns};
+ghost use Rattle.std.specs.Prelude.{◌≤◌, ◌<◌, MatchOption};
+ghost use Rattle.bits.specs.Bits.{value};
+ghost use Rattle.fractions.specs.Pairs.{Smallest, NoneFits};
+ghost use Rattle.learning.specs.Learning.{refusal_number, number_of, p_of, q_of, longest, Learns};
 
 mod end;
 mod guess;
 mod tail;
 
+use fractions::Fraction;
+use refusals::Numbered;
+
 // The longest burst, and how many bits decide.
 const LONGEST: u64 = 4096;
 
 const DECIDED: usize = 61;
-// The largest q, and the largest |p|, inside the limits.
-const LIMIT: usize = fractions::LIMIT as usize;
 
-// The fraction, or refusal 1, 2 or 3.
-#[derive(Clone, Copy)]
-pub enum Learned {
-    Answer(fractions::Fraction),
+// Why there is no fraction: refusals 1, 2 and 3.
+#[derive(Clone, Copy, PartialEq, Eq)]
+pub enum Refusal {
     CountTooLarge,
     TooFewBytes,
     NoneInside,
 }
 
+impl Numbered for Refusal {
+    ghost number = { refusal_number };
+
+    fn number(self) -> u32 {
+        match self {
+            Refusal::CountTooLarge => 1,
+            Refusal::TooFewBytes => 2,
+            Refusal::NoneInside => 3,
+        }
+    }
+}
+
 // A short burst: the least pair with q odd that fits, if it is inside the limits.
-fn by_search(bytes: &[u8], n: usize) -> Learned
-    requires { (n < 61) × Enough bytes.now n }
-    ensures { Learns bytes.now n (number_of result) (p_of result) (q_of result) }
+fn by_search(bytes: &[u8], n: usize) -> Option<Fraction>
+    requires { n < 61 }
+    ensures { MatchOption result (NoneFits n (value bytes.now n)) (λ x. Smallest n (value bytes.now n) x.p x.q) }
 {
     let x = reduction::search(bytes, n);
-    let g = x.g;
-    if end::held(g) {
-        return Learned::Answer(end::finish(g, n));
-    }
-    Learned::NoneInside
+    end::inside(end::finish(x.g, n))
 }
 
 // A long burst: the guess, if it is inside the limits and fits; else no pair does.
-fn by_guess(bytes: &[u8], n: usize) -> Learned
-    requires { (61 ≤ n) × Enough bytes.now n }
-    ensures { Learns bytes.now n (number_of result) (p_of result) (q_of result) }
+fn by_guess(bytes: &[u8], n: usize) -> Option<Fraction>
+    requires { (61 ≤ n) × (n ≤ longest) }
+    ensures { MatchOption result (NoneFits n (value bytes.now n)) (λ x. Smallest n (value bytes.now n) x.p x.q) }
 {
-    let e = guess::euclid(guess::first61(bytes));
-    let t = e.t;
-    if t % 2 == 0 {
-        return Learned::NoneInside;
-    }
-    if LIMIT < t {
-        return Learned::NoneInside;
-    }
-    let p = integers::signed::with_sign(e.r as u64, e.minus);
-    if tail::fits(bytes, n, p, t) {
-        return Learned::Answer(end::fraction(p, t));
-    }
-    Learned::NoneInside
+    let x = end::inside(guess::euclid(guess::first61(bytes)))?;
+    tail::fits(bytes, n, x).then_some(x)
 }
 
 // The smallest fraction that fits the first count bits, or refusal 1 (count above 4,096), 2 (fewer bytes than the count needs), 3 (no fitting pair inside the
 // limits), in that order. Bits past the count and extra bytes have no effect.
-pub fn learn(bytes: &[u8], count: u64) -> Learned
+pub fn learn(bytes: &[u8], count: u64) -> Result<Fraction, Refusal>
     ensures { Learns bytes.now count (number_of result) (p_of result) (q_of result) }
 {
     if LONGEST < count {
-        return Learned::CountTooLarge;
+        return Err(Refusal::CountTooLarge);
     }
     let n = count as usize;
-    if bytes.len() < (n + 7) / 8 {
-        return Learned::TooFewBytes;
+    if bytes.len() < n.div_ceil(8) {
+        return Err(Refusal::TooFewBytes);
     }
-    if n < DECIDED {
-        return by_search(bytes, n);
-    }
-    by_guess(bytes, n)
+    let found = if n < DECIDED {
+        by_search(bytes, n)
+    } else {
+        by_guess(bytes, n)
+    };
+    found.ok_or(Refusal::NoneInside)
 }

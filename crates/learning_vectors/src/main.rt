@@ -4,18 +4,14 @@
 // A case: the count in eight bytes; the bytes.
 #![tactic(auto)]
 
-use learning::Learned;
+use fractions::Fraction;
+use learning::Refusal;
 
-fn report(answer: Learned) {
-    match answer {
-        Learned::Answer(x) => {
-            show::number(0);
-            show::signed_field(x.p);
-            show::field(x.q as u64);
-        }
-        Learned::CountTooLarge => show::number(1),
-        Learned::TooFewBytes => show::number(2),
-        Learned::NoneInside => show::number(3),
+fn report(answer: Result<Fraction, Refusal>) {
+    show::number(refusals::number_of(answer));
+    if let Ok(x) = answer {
+        show::field(x.p);
+        show::field(x.q);
     }
     show::line_end();
 }

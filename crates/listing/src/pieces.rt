@@ -1,67 +1,59 @@
-// The parts of a line, each written at a position and answering the position behind it.
-ghost use Rattle.std.specs.Prelude.{◌≡◌, ◌+◌, ◌≤◌, length};
+// The parts of a line, each appended to what stands before it.
+ghost use Rattle.std.specs.Prelude.{◌≡◌, ◌+◌, ◌++◌, ◌≤◌, List, ℕ, length};
 ghost use Rattle.fractions.specs.Pairs.{Inside};
-ghost use Rattle.registers.specs.Registers.{Valid, cell_count};
-ghost use Rattle.text.specs.Text.{Writes};
-ghost use Rattle.phrases.specs.Phrases.{Piece};
+ghost use Rattle.listing.specs.Lines.{line_size};
 ghost use Rattle.listing.specs.Pieces.{registered, Way, Rest};
 
-use registers::Register;
+use crate::LINE;
+use arrayvec::ArrayString;
+use fractions::Fraction;
+use itoa::Buffer;
+use registers::ValidRegister;
 
 // The steps that a walk may take.
 const ALLOWANCE: u32 = 65536;
 
-// The number of cells of a valid register.
-fn cells(g: Register) -> u32
-    requires { Valid g }
-    ensures { result ≡ cell_count g.q }
-{
-    match storage::sheet(g) {
-        storage::StorageSheet::Needs(cells, _) => cells,
-        storage::StorageSheet::Invalid => 0,
-    }
-}
-
 // p, q, the number of cells and the memory.
-fn registered(out: &mut [u8], at: usize, p: i32, g: Register) -> usize
-    requires { (at + 46 ≤ length out.old) × Valid g }
-    ensures { Piece out.old at (registered p g.q g.memory) 46 out.new result }
+fn registered(out: &mut ArrayString<LINE>, p: i32, v: ValidRegister)
+    requires { length out.old.bytes + 46 ≤ line_size }
+    ensures text { out.new.bytes ≡ out.old.bytes ++ registered p v.register.q v.register.memory }
+    ensures short { length out.new.bytes ≤ length out.old.bytes + 46 }
 {
-    let second = phrases::signed_field(out, at, p);
-    let third = phrases::field(out, second, g.q);
-    let fourth = phrases::field(out, third, cells(g));
-    phrases::signed_field(out, fourth, g.memory)
+    phrases::field(out, p);
+    phrases::field(out, v.register.q);
+    phrases::field(out, storage::sheet_of(v).cells);
+    phrases::field(out, v.register.memory);
 }
 
 // Lead-in, period and the line end; "-" for both where the walk is past its allowance.
-fn way(out: &mut [u8], at: usize, g: Register) -> usize
-    requires { (at + 22 ≤ length out.old) × Valid g }
-    ensures { Writes (Way g) out.old at out.new result }
+fn way(out: &mut ArrayString<LINE>, v: ValidRegister)
+    requires { length out.old.bytes + 22 ≤ line_size }
+    ensures { (text : List ℕ) × Way v.register text × (out.new.bytes ≡ out.old.bytes ++ text) }
 {
-    match walking::walk(g, ALLOWANCE) {
-        walking::Walked::Loop(lead, period, _) => {
-            let second = phrases::field(out, at, lead);
-            let end = text::number(out, second, period as u64);
-            text::word(out, end, b"\n")
+    match walking::walk(v.register, ALLOWANCE) {
+        Ok(walk) => {
+            phrases::field(out, walk.lead_in);
+            out.push_str(Buffer::new().format(walk.period));
+            out.push('\n');
         }
-        walking::Walked::Past => text::word(out, at, b"- -\n"),
+        Err(walking::Refusal::Past) => out.push_str("- -\n"),
         // a valid register is not refused
-        walking::Walked::Invalid => at,
+        Err(walking::Refusal::Invalid) => {}
     }
 }
 
 // What follows the count: the pair, its register and its walk.
-pub fn rest(out: &mut [u8], at: usize, p: i32, q: u32) -> usize
-    requires { (at + 68 ≤ length out.old) × Inside p q }
-    ensures { Writes (Rest p q) out.old at out.new result }
+pub fn rest(out: &mut ArrayString<LINE>, pair: Fraction)
+    requires { (length out.old.bytes + 68 ≤ line_size) × Inside pair.p pair.q }
+    ensures { (text : List ℕ) × Rest pair.p pair.q text × (out.new.bytes ≡ out.old.bytes ++ text) }
 {
-    match registers::load(p, q) {
-        registers::Loaded::Into(g) => {
-            let next = registered(out, at, p, g);
-            way(out, next, g)
+    match registers::load(pair) {
+        Ok(register) => {
+            let v = ValidRegister { register };
+            registered(out, pair.p, v);
+            way(out, v);
         }
         // a pair inside the limits is not refused, and its memory never too wide
-        registers::Loaded::Outside => at,
-        registers::Loaded::Wide => at,
+        Err(_) => {}
     }
 }

@@ -2,12 +2,12 @@
 use Prim.Native.Nat.{ℕ, zero, suc, ◌+◌, ◌*◌, ◌/◌, ◌%◌, ◌^◌, ◌≤◌, ◌<◌}
 use mathlib.Core.Path.{◌≡◌, refl, sym, ap, ◌∙◌, subst}
 use mathlib.Core.List.{List, [], ◌∷◌}
-use native.Mathlib.Nat.{mod-eq_of_lt, mul-le-mul_left, lt_of_mul-lt-mul_left, pow-le-pow_right, div-add-mod, mod-add-div, mul-le-mul, add-zero}
+use native.Mathlib.Nat.{mod-eq_of_lt, mul-le-mul_left, lt_of_mul-lt-mul_left, pow-le-pow_right, div-add-mod, mul-le-mul, add-zero}
 use mathlib.Core.Logic.{⊎_elim}
 use native.Mathlib.Omega.{arith}
 use native.Mathlib.Numerals.{add-one}
 use lib.ListN.{length, take, drop, get_or, set, length-set}
-use lib.Seq.{take-suc, length-take-le, get_or-drop, take_all, get_or-set_other}
+use lib.Seq.{take-suc, length-take-le, get_or-drop, take_all}
 use lib.Pow.{pow-add}
 use Rattle.bits.specs.Bits.{num, digits, Below}
 use Rattle.packing.specs.Inner.{WordFits, MoreFits}
@@ -108,32 +108,25 @@ added_all bytes have more now j a h =
     sym (digits-num 256 now (omega arith) a.low) ∙ rw (a.long, a.sum, take_all j more h) refl
 
 -- a word is its two bytes
-pub word_one : (l : List ℕ) (i w : ℕ) → i < length l → w / 256 ≡ 0
-    → (length (set l i (get_or l i 0 + w % 256)) ≡ length l) × (num 256 (set l i (get_or l i 0 + w % 256)) ≡ num 256 l + 256 ^ i * w)
-word_one l i w h z = (length-set l i _, num-set 256 l i (w % 256) h ∙ ap (λ (n : ℕ). num 256 l + 256 ^ i * n) (omega arith))
+pub word_one : (l : List ℕ) (i low w : ℕ) → i < length l → w ≡ low → (length (set l i (get_or l i 0 + low)) ≡ length l) × (num 256 (set l i (get_or l i 0 + low)) ≡ num 256 l + 256 ^ i * w)
+word_one l i low w h e = (length-set l i _, num-set 256 l i low h ∙ ap (λ (n : ℕ). num 256 l + 256 ^ i * n) (sym e))
 
-pub word_two : (l m : List ℕ) (i w : ℕ) → i + 1 < length l → m ≡ set l i (get_or l i 0 + w % 256)
-    → (length (set m (i + 1) (get_or m (i + 1) 0 + w / 256)) ≡ length l) × (num 256 (set m (i + 1) (get_or m (i + 1) 0 + w / 256)) ≡ num 256 l + 256 ^ i * w)
-word_two l m i w h e =
-    let k : length m ≡ length l = ap length e ∙ length-set l i _ in (
+pub word_two : (l : List ℕ) (i low high w : ℕ) → i + 1 < length l → w ≡ low + 256 * high
+    → (length (set (set l i (get_or l i 0 + low)) (i + 1) (get_or (set l i (get_or l i 0 + low)) (i + 1) 0 + high)) ≡ length l)
+    × (num 256 (set (set l i (get_or l i 0 + low)) (i + 1) (get_or (set l i (get_or l i 0 + low)) (i + 1) 0 + high)) ≡ num 256 l + 256 ^ i * w)
+word_two l i low high w h e =
+    let m = set l i (get_or l i 0 + low) in
+    let k : length m ≡ length l = length-set l i _ in (
       length-set m (i + 1) _ ∙ k,
-      num-set 256 m (i + 1) (w / 256) (omega arith)
-          ∙ omega (arith, ap (num 256) e ∙ num-set 256 l i (w % 256) (omega arith), ap (λ (n : ℕ). n * (w / 256)) (pow-add 256 i 1), ap (λ (n : ℕ). 256 ^ i * n) (mod-add-div w 256)),
+      num-set 256 m (i + 1) high (omega arith)
+          ∙ omega (arith, num-set 256 l i low (omega arith), ap (λ (n : ℕ). n * high) (pow-add 256 i 1), ap (λ (n : ℕ). 256 ^ i * n) e),
     )
-
-pub second_room : (l m : List ℕ) (i w : ℕ) → WordFits l i w → m ≡ set l i (get_or l i 0 + w % 256) → (w / 256 ≡ 0 → ⊥)
-    → (i + 1 < length m) × (get_or m (i + 1) 0 + w / 256 < 256)
-second_room l m i w f e z =
-    let b : 256 ≤ w = omega (arith, z) in
-    let k : length m ≡ length l = ap length e ∙ length-set l i _ in
-    let g : get_or m (i + 1) 0 ≡ get_or l (i + 1) 0 = ap (λ (t : List ℕ). get_or t (i + 1) 0) e ∙ get_or-set_other l i (i + 1) _ 0 (λ q. omega arith) in
-    (omega (arith, f.next b), omega (arith, f.clear b, f.short))
 
 pub none_yet : (bytes : List ℕ) (have : ℕ) (more : List ℕ) → num 256 bytes ≡ num 256 bytes + 2 ^ have * num 256 (take 0 more)
 unfolding num
 none_yet bytes have more = omega arith
 
 -- the machine's shift of a byte loses nothing
-pub shifted : (more : List ℕ) (j s r : ℕ) → r ≡ get_or more j 0 → get_or more j 0 < 256 → s < 8 → r * 2 ^ s % 18446744073709551616 ≡ get_or more j 0 * 2 ^ s
+pub shifted : (more : List ℕ) (j s r : ℕ) → r ≡ get_or more j 0 → get_or more j 0 < 256 → s < 8 → r * 2 ^ s % 65536 ≡ get_or more j 0 * 2 ^ s
 shifted more j s r e l h =
     rw e (mod-eq_of_lt (let b = mul-le-mul {n₁ = get_or more j 0} {n₂ = 255} (omega arith) (pow_below s h) in omega arith))

@@ -14,33 +14,30 @@ fn low(x: usize, m: usize) -> usize
     x % (1 << m)
 }
 
-// Five bytes from byte j on as one number, lowest first; they are there, so none is tested for.
-fn five_inside(bytes: &[u8], j: usize) -> usize
-    requires { j + 5 ≤ length bytes.now }
-    ensures { (result ≡ five_from bytes.now j) × (result < 2 ^ 40) }
+// Five bytes as one number, lowest first.
+fn joined(bytes: [u8; 5]) -> usize
+    ensures { (result ≡ five_from bytes 0) × (result < 2 ^ 40) }
 {
-    let a = bits::wide(bytes[j]);
-    let b = bits::wide(bytes[j + 1]);
-    let c = bits::wide(bytes[j + 2]);
-    let d = bits::wide(bytes[j + 3]);
-    let e = bits::wide(bytes[j + 4]);
-    a + 256 * b + 65536 * c + 16777216 * d + 4294967296 * e
+    let [a, b, c, d, e] = bytes;
+    usize::from_le_bytes([a, b, c, d, e, 0, 0, 0])
 }
 
-// The same, zeros past the end.
+// Those from byte j on, zeros past the end. Where all five are there, none is tested for; by a slice's pattern it takes twice the instructions.
 fn five_from(bytes: &[u8], j: usize) -> usize
     requires { j < 2 ^ 62 }
     ensures { (result ≡ five_from bytes.now j) × (result < 2 ^ 40) }
 {
     if j + 5 <= bytes.len() {
-        return five_inside(bytes, j);
+        return joined([
+            bytes[j],
+            bytes[j + 1],
+            bytes[j + 2],
+            bytes[j + 3],
+            bytes[j + 4],
+        ]);
     }
-    let a = bits::byte_at(bytes, j);
-    let b = bits::byte_at(bytes, j + 1);
-    let c = bits::byte_at(bytes, j + 2);
-    let d = bits::byte_at(bytes, j + 3);
-    let e = bits::byte_at(bytes, j + 4);
-    a + 256 * b + 65536 * c + 16777216 * d + 4294967296 * e
+    let at = |k: usize| bytes.get(j + k).map_or(0, |&byte| byte);
+    joined([at(0), at(1), at(2), at(3), at(4)])
 }
 
 // Bits i to i + m - 1, zeros past the end. Not an entry point: its callers in other crates show that m is small.
@@ -53,22 +50,15 @@ pub fn bits_from(bytes: &[u8], i: usize, m: usize) -> usize
     low(all >> k, m)
 }
 
-fn add_byte(bytes: &mut [u8], i: usize, d: usize)
-    requires { (i < length bytes.old) × (get_or bytes.old i 0 + d < 256) }
-    ensures { bytes.new ≡ set bytes.old i (get_or bytes.old i 0 + d) }
-{
-    bytes[i] = (bits::wide(bytes[i]) + d) as u8;
-}
-
-// Adds a word of two bytes at byte i.
-fn add_word(bytes: &mut [u8], i: usize, w: usize)
+// Adds a word of two bytes at byte i. By `to_le_bytes` both bytes are made first, and taking a block costs a quarter more.
+fn add_word(bytes: &mut [u8], i: usize, w: u16)
     requires { WordFits bytes.old i w }
     ensures { (length bytes.new ≡ length bytes.old) × (num 256 bytes.new ≡ num 256 bytes.old + 256 ^ i * w) }
 {
-    add_byte(bytes, i, w % 256);
-    let high = w / 256;
+    bytes[i] += (w % 256) as u8;
+    let high = (w / 256) as u8;
     if high != 0 {
-        add_byte(bytes, i + 1, high);
+        bytes[i + 1] += high;
     }
 }
 
@@ -77,12 +67,9 @@ pub fn add_bits(bytes: &mut [u8], have: usize, more: &[u8])
     requires { MoreFits bytes.old have more.now }
     ensures { bytes.new ≡ digits 256 (length bytes.old) (num 256 bytes.old + 2 ^ have * num 256 more.now) }
 {
-    let shift = have % 8;
     let from = have / 8;
-    let mut j = 0;
-    while j < more.len() {
-        let w = bits::wide(more[j]) << shift;
-        add_word(bytes, from + j, w);
-        j += 1;
+    let shift = have % 8;
+    for (j, &byte) in more.iter().enumerate() {
+        add_word(bytes, from + j, u16::from(byte) << shift);
     }
 }

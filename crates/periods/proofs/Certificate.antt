@@ -2,8 +2,8 @@
 --
 --   certified                     a multiple of T out of which no prime can be divided is T
 --   Lowering c t l r              r is t with some factors l divided out, and is a multiple of the order where t is
---   lowering_start, _step         on the way through them
---   lowered_none, _stuck          the end: l does not divide r, or 2^(r / l) is not 1
+--   lowering_step                 on the way through them
+--   lowered_stuck                 the end where 2^(r / l) is not 1
 --   Search c t m l                m is left to factor, with no factor below l; each prime is stuck at t, or divides m
 --   search_start, _next, _lower   the turns of the search
 --   search_one, _last             its end: m is 1, or a prime, which is divided out of t last
@@ -12,7 +12,7 @@ use mathlib.Core.Logic.{◌⊎◌, inl, inr}
 use Prim.Native.Nat.{ℕ, zero, suc, ◌+◌, ◌*◌, ◌/◌, ◌%◌, ◌^◌, ◌≤◌, ◌<◌}
 use native.Mathlib.Omega.{arith}
 use native.Mathlib.Decide.{ℕ_discrete}
-use native.Mathlib.Nat.{mod_self, mul_assoc, mul-mod_right, mul-div_cancel_left, div-le_self}
+use native.Mathlib.Nat.{mul_assoc, mul-mod_right, mul-div_cancel_left, div-le_self}
 use Rattle.integers.proofs.Coprime.{quot, quot_divides, div_mul, div_trans, div_some, one_undivided}
 use Rattle.integers.proofs.Primes.{Prime, Fresh, prime_of, prime_divisor, prime_left, fresh_down, fresh_next, fresh_prime, fresh_last}
 use Rattle.periods.specs.Orders.{UnitPower, Order}
@@ -62,9 +62,6 @@ pub record Lowering (c t l r : ℕ) : Type 0 where
   pub part : t % r ≡ 0
   pub keeps : (T : ℕ) → Order c T → t % T ≡ 0 → r % T ≡ 0
 
-pub lowering_start : (c t l : ℕ) → c % 2 ≡ 1 → 2 ≤ l → 1 ≤ t → Lowering c t l t
-lowering_start c t l o h s = record { odd = o; two = h; some = s; most = omega arith; part = mod_self t; keeps = λ T r d. d }
-
 pub lowering_step : (c t l r : ℕ) → Lowering c t l r → r % l ≡ 0 → 2 ^ (r / l) % c ≡ 1 % c → Lowering c t l (r / l)
 lowering_step c t l r w d h = record {
   odd = w.odd;
@@ -74,9 +71,6 @@ lowering_step c t l r w d h = record {
   part = div_trans (r / l) r t (quot_divides l r d) w.part;
   keeps = λ T o _. (order_multiple c T (r / l) o).0 h;
 }
-
-pub lowered_none : (c t l r : ℕ) → Lowering c t l r → (r % l ≡ 0 → ⊥) → Lowered c t l r
-lowered_none c t l r w n = record { some = w.some; part = w.part; keeps = w.keeps; stuck = λ T o d _. n d }
 
 pub lowered_stuck : (c t l r : ℕ) → Lowering c t l r → (2 ^ (r / l) % c ≡ 1 % c → ⊥) → Lowered c t l r
 lowered_stuck c t l r w n = record {

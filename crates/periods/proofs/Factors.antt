@@ -1,7 +1,7 @@
 -- A number with one factor divided out as often as may be.
 --
 --   Parted m l r                r is m with some factors l divided out
---   parted_start, _step, _end   on the way through them, and at the end: `Without`
+--   parted_step                 on the way through them
 --   without_more                where l divides m, at least one l is divided out
 --   without_divides, _some      r divides m, and is at least 1 where m is
 --   without_less, _nearer       where l divides m, r is less than m, and nearer to l where l is at most m / l: trial division ends
@@ -21,9 +21,6 @@ pub record Parted (m l r : ℕ) : Type 0 where
   pub some : 1 ≤ r
   pub two : 2 ≤ l
 
-pub parted_start : (m l : ℕ) → 2 ≤ l → 1 ≤ m → Parted m l m
-parted_start m l t s = record { times = 0; whole = sym (ap (λ n. n * m) (pow-zero l) ∙ one-mul m); some = s; two = t }
-
 pub parted_step : (m l r : ℕ) → Parted m l r → Divides l r → Parted m l (r / l)
 parted_step m l r w d = record {
   times = suc w.times;
@@ -32,9 +29,6 @@ parted_step m l r w d = record {
   some = div_some (r / l) r w.some (quot_divides l r d);
   two = w.two;
 }
-
-pub parted_end : (m l r : ℕ) → Parted m l r → (Divides l r → ⊥) → Without m l r
-parted_end m l r w n = record { times = w.times; whole = w.whole; none = n }
 
 pub without_more : (m l r : ℕ) → Divides l m → Without m l r → (k : ℕ) × (m ≡ l ^ suc k * r)
 without_more m l r d w = go w.times w.whole

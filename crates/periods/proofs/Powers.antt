@@ -3,12 +3,11 @@
 --   power_step   2^e mod c, one digit of e more
 --   root         twice l is at most m where l is at most m / l
 --   part_le      n / l, taken no more than l times, is at most n
---   shift_out    e is below 2^i where nothing is left of it after a shift by i
 use mathlib.Core.Path.{◌≡◌, refl, sym, ap, ◌∙◌}
 use Prim.Native.Nat.{ℕ, zero, suc, ◌+◌, ◌*◌, ◌/◌, ◌%◌, ◌^◌, ◌≤◌, ◌<◌}
 use native.Mathlib.Omega.{arith}
-use native.Mathlib.Nat.{le-div_iff_mul-le, div-mul-le_self, le_trans, mul-le-mul_left, div-lt_iff_lt-mul}
-use lib.Pow.{pow-add, pow_pos, shr-shr}
+use native.Mathlib.Nat.{le-div_iff_mul-le, div-mul-le_self, le_trans, mul-le-mul_left}
+use lib.Pow.{pow-add, shr-shr}
 use Rattle.integers.proofs.Modulo.{mul_mod_l}
 
 square : (x y c : ℕ) → (x % c * (x % c) * y) % c ≡ (x * x * y) % c
@@ -45,6 +44,3 @@ root l m h k =
 
 pub part_le : (n l k : ℕ) → k ≤ l → n / l * k ≤ n
 part_le n l k h = le_trans (mul-le-mul_left (n / l) h) (div-mul-le_self n l)
-
-pub shift_out : (e i : ℕ) → e / 2 ^ i ≡ 0 → e < 2 ^ i
-shift_out e i h = let a : e < 1 * 2 ^ i = (div-lt_iff_lt-mul {k = 2 ^ i} {x = e} {y = 1} (pow_pos i)).0 (omega arith) in omega arith

@@ -5,6 +5,7 @@
 --   Dividing c m n l       m is clean, has no factor below l, and is not like a prime
 --   dividing_start, _next  the turns of the search that divide nothing out of m
 --   dividing_clean, _down  those that divide an odd prime l out of it, whether what is left is like a prime or not
+--   dividing_odd           what is left is odd
 --   dividing_end           the other end: m is 1, since each odd prime is like one
 --   decides_unit           the test for a number like a prime
 use mathlib.Core.Path.{◌≡◌, refl, sym, ap, ◌∙◌, subst, subst₂}
@@ -136,17 +137,21 @@ dividing_down c m n l r w h v u = record {
   unlike = u;
 }
 
+-- what has no factor below 3 is odd
+fresh_odd : (m l : ℕ) → 3 ≤ l → Fresh m l → m % 2 ≡ 1
+fresh_odd m l h w = other (m % 2) (omega arith) (w 2 (omega arith) (omega arith))
+  where
+    other : (b : ℕ) → b < 2 → (b ≡ 0 → ⊥) → b ≡ 1
+    other b h f = omega arith
+
+pub dividing_odd : (c m n l r : ℕ) → Dividing c m n l → Without m l r → r % 2 ≡ 1
+dividing_odd c m n l r w v = fresh_odd r l w.low (fresh_down m r l (without_divides m l r v) w.fresh)
+
 pub dividing_end : (c m n l : ℕ) → Dividing c m n l → m / l < l → UnitPower c n
 dividing_end c m n l w h = elim (le_or_gt m 1) [
   | inl k ↦ clean_one c m n w.clean (omega (arith, w.some))
-  | inr k ↦ absurd (w.unlike (unit_prime m (fresh_last m l (omega (arith, w.low)) w.fresh k h) odd))
+  | inr k ↦ absurd (w.unlike (unit_prime m (fresh_last m l (omega (arith, w.low)) w.fresh k h) (fresh_odd m l w.low w.fresh)))
 ]
-  where
-    odd : m % 2 ≡ 1
-    odd = other (m % 2) (omega arith) (w.fresh 2 (omega arith) (omega (arith, w.low)))
-      where
-        other : (b : ℕ) → b < 2 → (b ≡ 0 → ⊥) → b ≡ 1
-        other b h f = omega arith
 
 -- ---- the test
 pub decides_unit : (m r : ℕ) → 2 ≤ m → r ≡ 2 ^ (m - 1) % m → Decides (UnitPower m (m - 1)) (eqb r 1)

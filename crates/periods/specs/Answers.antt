@@ -1,20 +1,22 @@
 -- What the period table answers, by the document's numbers for no.
 --
---   number_of r, period_of r    the number and the value of each case of `Lookup`
+--   refusal_number x            the number of a refusal
+--   number_of r, period_of r    the number and the value of an answer
 --   InTable q                 "for every odd q from 1 to 1,023"
 --   Periods q number period   "the least T >= 1 with 2^T - 1 divisible by q"; "Even q, 0 and larger q get refusal 4."
-use Rattle.std.specs.Prelude.{◌≡◌, ℕ, ◌%◌, ◌≤◌}
+use Rattle.std.specs.Prelude.{◌≡◌, ℕ, ◌%◌, ◌≤◌, Result}
+use Rattle.refusals.specs.Refusals as answers
 use Rattle.periods.specs.Orders.{Order}
-use Rattle.periods.specs.declared.Lookup.{Lookup}
-use Rattle.periods.specs.declared.Lookup.TheVariants.{Period, Outside}
+use Rattle.periods.specs.declared.Outside.{Outside}
 
-abbrev pub number_of : Lookup → ℕ
-number_of (Period t) = 0
-number_of Outside = 4
+abbrev pub refusal_number : Outside → ℕ
+refusal_number x = 4
 
-abbrev pub period_of : Lookup → ℕ
-period_of (Period t) = t
-period_of Outside = 0
+abbrev pub number_of : Result ℕ Outside → ℕ
+number_of r = answers.number_of refusal_number r
+
+abbrev pub period_of : Result ℕ Outside → ℕ
+period_of r = answers.field_of 0 (λ t. t) r
 
 pub record InTable (q : ℕ) : Type 0 where
   pub odd : q % 2 ≡ 1

@@ -5,44 +5,94 @@ ghost use Rattle.integers.specs.Numbers.{Decides};
 ghost use Rattle.periods.specs.Orders.{UnitPower, Order};
 ghost use Rattle.periods.specs.Finding.{Without, Lowered};
 
-// A number of bits that e fits.
-fn width(e: u32) -> u32
-    ensures { (result ≤ 32) × (e < 2 ^ result) }
-{
-    let mut i: u32 = 0;
-    while i < 32 {
-        if e >> i == 0 {
-            return i;
+// An odd number below 2^30, so that the square of a remainder, doubled, fits 64 bits.
+#[derive(Clone, Copy)]
+struct Modulus {
+    c: u32,
+    ghost odd: { c % 2 ≡ 1 },
+    ghost small: { c < 2 ^ 30 },
+}
+
+impl Modulus {
+    // 2^e mod c, by squaring.
+    fn power(self, e: u32) -> u32
+        ensures { result ≡ 2 ^ e % self.c }
+    {
+        let c = u64::from(self.c);
+        let mut r = 1 % c;
+        for i in (0..u32::BITS - e.leading_zeros()).rev() {
+            r = r * r * u64::from(1 + (e >> i) % 2) % c;
         }
-        i += 1;
+        r as u32
     }
-    32
-}
 
-// 2^e mod c, by squaring.
-fn power_mod(e: u32, c: u32) -> u32
-    requires { (1 ≤ c) × (c < 2 ^ 30) }
-    ensures { result ≡ 2 ^ e % c }
-{
-    let m = c as u64;
-    let mut r = 1 % m;
-    let mut i = width(e);
-    while 0 < i {
-        i -= 1;
-        r = r * r * (1 + ((e >> i) % 2) as u64) % m;
+    // Is 2^(c - 1) = 1 mod c, as for each odd prime c?
+    fn is_like_prime(self) -> bool
+        ensures { Decides (UnitPower self.c (self.c - 1)) result }
+    {
+        1 < self.c && self.power(self.c - 1) == 1
     }
-    r as u32
-}
 
-// Is 2^(m - 1) = 1 mod m, as for each odd prime m?
-fn like_prime(m: u32) -> bool
-    requires { m < 2 ^ 30 }
-    ensures { Decides (UnitPower m (m - 1)) result }
-{
-    if m < 2 {
-        false
-    } else {
-        power_mod(m - 1, m) == 1
+    // A multiple of the order: Euler's function of c, by trial division, but that what is left counts as a prime as soon as it is
+    // like one, which spares the way to its root. A prime is like one, so that nothing is left where the loop ends.
+    fn totient(self) -> u32
+        ensures { UnitPower self.c result }
+    {
+        if self.is_like_prime() {
+            return self.c - 1;
+        }
+        let mut m = self;
+        let mut n = self.c;
+        let mut l: u32 = 3;
+        // no `for`: how far l goes is told by what is left, and it stays where it divides
+        while l <= m.c / l {
+            if m.c % l == 0 {
+                n = n / l * (l - 1);
+                m = Modulus { c: without(m.c, l) };
+                if m.is_like_prime() {
+                    return n / m.c * (m.c - 1);
+                }
+            } else {
+                l += 2;
+            }
+        }
+        n
+    }
+
+    // t with l divided out of it for as long as 2^t stays 1 mod c.
+    fn lowered(self, t: u32, l: u32) -> u32
+        requires { (2 ≤ l) × (1 ≤ t) }
+        ensures { Lowered self.c t l result }
+    {
+        let one = 1 % self.c;
+        let mut r = t;
+        while r % l == 0 {
+            if self.power(r / l) != one {
+                return r;
+            }
+            r /= l;
+        }
+        r
+    }
+
+    // The order of two mod c, from an n with 2^n = 1: each prime factor of n, by trial division, is divided out as often as may be.
+    fn order_from(self, n: u32) -> u32
+        requires { UnitPower self.c n }
+        ensures { Order self.c result }
+    {
+        let mut t = n;
+        let mut m = n;
+        let mut l: u32 = 2;
+        // no `for`, as in `totient`, and no loop with it: where l begins and how it goes on, what a divisor does and when it is done all differ
+        while l <= m / l {
+            if m % l == 0 {
+                t = self.lowered(t, l);
+                m = without(m, l);
+            } else {
+                l += 1 + l % 2;
+            }
+        }
+        if 1 < m { self.lowered(t, m) } else { t }
     }
 }
 
@@ -53,70 +103,9 @@ fn without(m: u32, l: u32) -> u32
 {
     let mut r = m;
     while r % l == 0 {
-        r = r / l;
+        r /= l;
     }
     r
-}
-
-// A multiple of the order: Euler's function of c, by trial division, but that what is left counts as a prime as soon as it is
-// like one, which spares the way to its root. A prime is like one, so that nothing is left where the loop ends.
-fn totient(c: u32) -> u32
-    requires { (c % 2 ≡ 1) × (c < 2 ^ 30) }
-    ensures { UnitPower c result }
-{
-    if like_prime(c) {
-        return c - 1;
-    }
-    let mut m = c;
-    let mut n = c;
-    let mut l: u32 = 3;
-    while l <= m / l {
-        if m % l == 0 {
-            n = n / l * (l - 1);
-            m = without(m, l);
-            if like_prime(m) {
-                return n / m * (m - 1);
-            }
-        } else {
-            l += 2;
-        }
-    }
-    n
-}
-
-// t with l divided out of it for as long as 2^t stays 1 mod c.
-fn lowered(c: u32, t: u32, l: u32) -> u32
-    requires { (c % 2 ≡ 1) × (c < 2 ^ 30) × (2 ≤ l) × (1 ≤ t) }
-    ensures { Lowered c t l result }
-{
-    let one = 1 % c;
-    let mut r = t;
-    while r % l == 0 {
-        if power_mod(r / l, c) != one {
-            return r;
-        }
-        r = r / l;
-    }
-    r
-}
-
-// The order of two mod c, from an n with 2^n = 1: each prime factor of n, by trial division, is divided out as often as may be.
-fn from_multiple(c: u32, n: u32) -> u32
-    requires { (c % 2 ≡ 1) × (c < 2 ^ 30) × UnitPower c n }
-    ensures { Order c result }
-{
-    let mut t = n;
-    let mut m = n;
-    let mut l: u32 = 2;
-    while l <= m / l {
-        if m % l == 0 {
-            t = lowered(c, t, l);
-            m = without(m, l);
-        } else {
-            l += 1 + l % 2;
-        }
-    }
-    if 1 < m { lowered(c, t, m) } else { t }
 }
 
 // The order of two mod c. Not an entry point: its callers in other crates show that c is odd and below 2^30. At most 16,391 turns
@@ -125,5 +114,6 @@ pub fn of_two(c: u32) -> u32
     requires { (c % 2 ≡ 1) × (c < 2 ^ 30) }
     ensures { Order c result }
 {
-    from_multiple(c, totient(c))
+    let c = Modulus { c };
+    c.order_from(c.totient())
 }

@@ -1,5 +1,5 @@
 // The least T >= 1 with 2^T - 1 divisible by q, for every odd q from 1 to 1,023: entry i is that of q = 2 i + 1.
-// The proof of `period` computes the rule over all 512. Entries of 16 bits, because a lookup copies the whole table to the stack.
+// The proof of `period` computes the rule over all 512. Entries of 16 bits, of which the largest, 1,018, takes ten; a lookup reads its entry where the table stands.
 pub const PERIODS: [u16; 512] = [
     1, 2, 4, 3, 6, 10, 12, 4, 8, 18, 6, 11, 20, 18, 28, 5, 10, 12, 36, 12, 20, 14, 12, 23, 21, 8,
     52, 20, 18, 58, 60, 6, 12, 66, 22, 35, 9, 20, 30, 39, 54, 82, 8, 28, 11, 12, 10, 36, 48, 30,

@@ -4,9 +4,8 @@
 --   spaced field                   a field and the space behind it: "Fields, one space between"
 --   refused_text n                  "refused N"
 --   placed_text n p                 the same with its place: "A refused block prints only "refused N at P"."
---   Piece old at text most new r   the text was written at `at`, r is the position behind it, and it has at most `most` bytes
-use Rattle.std.specs.Prelude.{List, [], ◌∷◌, ◌++◌, ℕ, ◌≤◌, length}
-use Rattle.text.specs.Text.{Wrote, decimal_of}
+use Rattle.std.specs.Prelude.{List, [], ◌∷◌, ◌++◌, ℕ}
+use Rattle.text.specs.Text.{decimal_of}
 
 abbrev pub space : ℕ
 space = 32
@@ -29,7 +28,3 @@ refused_text n = refused_word ++ decimal_of n
 
 abbrev pub placed_text : ℕ → ℕ → List ℕ
 placed_text n p = refused_text n ++ (at_word ++ decimal_of p)
-
-pub record Piece (old : List ℕ) (at : ℕ) (text : List ℕ) (most : ℕ) (new : List ℕ) (r : ℕ) : Type 0 where
-  pub wrote : Wrote old at text new r
-  pub short : length text ≤ most

@@ -1,53 +1,51 @@
-// The phrases that both programs print, as text on lent bytes: numbers with the space behind them, and refusals. Each function answers the position
-// behind what it wrote. The contracts cite Phrases of specs/. None is an entry point: callers in other crates show that there is room.
+// The phrases that both programs print, each appended to a text of fixed room: numbers with the space behind them, and refusals. The contracts cite Phrases
+// of specs/, and say how much longer the text is at most, so that a caller shows room by a sum. None is an entry point: callers in other crates show it.
 #![tactic(auto)]
 
-ghost use Rattle.std.specs.Prelude.{◌++◌, ◌+◌, ◌≤◌, length};
-ghost use Rattle.text.specs.Text.{decimal_of, signed_of};
-ghost use Rattle.phrases.specs.Phrases.{Piece, spaced, refused_text, placed_text};
+ghost use Rattle.std.specs.Prelude.{◌≡◌, ◌++◌, ◌+◌, ◌≤◌, length};
+ghost use Rattle.text.specs.Text.{decimal_of};
+ghost use Rattle.phrases.specs.Phrases.{spaced, refused_text, placed_text};
 
-// A number, and the space behind it.
-pub fn field(out: &mut [u8], at: usize, n: u32) -> usize
-    requires { at + 11 ≤ length out.old }
-    ensures { Piece out.old at (spaced (decimal_of n)) 11 out.new result }
-{
-    let next = text::number(out, at, n as u64);
-    text::word(out, next, b" ")
-}
+use arrayvec::ArrayString;
+use itoa::{Buffer, Integer};
 
-// The same for a number of either sign.
-pub fn signed_field(out: &mut [u8], at: usize, z: i32) -> usize
-    requires { at + 12 ≤ length out.old }
-    ensures { Piece out.old at (spaced (signed_of z)) 12 out.new result }
+// A number of any type in decimal digits, "-" in front of a negative one, and the space behind it.
+pub fn field<I: Integer, const CAP: usize>(out: &mut ArrayString<CAP>, n: I)
+    requires { length out.old.bytes + I.MAX_STR_LEN + 1 ≤ CAP }
+    ensures text { out.new.bytes ≡ out.old.bytes ++ spaced (I.text n) }
+    ensures short { length out.new.bytes ≤ length out.old.bytes + I.MAX_STR_LEN + 1 }
 {
-    let end = text::signed(out, at, z);
-    text::word(out, end, b" ")
+    out.push_str(Buffer::new().format(n));
+    out.push(' ');
 }
 
 // The two fields that a line begins with.
-pub fn head(out: &mut [u8], first: u32, second: u32) -> usize
-    requires { 22 ≤ length out.old }
-    ensures { Piece out.old 0 (spaced (decimal_of first) ++ spaced (decimal_of second)) 22 out.new result }
+pub fn head<const CAP: usize>(out: &mut ArrayString<CAP>, first: u32, second: u32)
+    requires { length out.old.bytes + 22 ≤ CAP }
+    ensures text { out.new.bytes ≡ out.old.bytes ++ (spaced (decimal_of first) ++ spaced (decimal_of second)) }
+    ensures short { length out.new.bytes ≤ length out.old.bytes + 22 }
 {
-    let next = field(out, 0, first);
-    field(out, next, second)
+    field(out, first);
+    field(out, second);
 }
 
-// A refusal without a place, at the start of the bytes.
-pub fn refused(out: &mut [u8], number: u32) -> usize
-    requires { 18 ≤ length out.old }
-    ensures { Piece out.old 0 (refused_text number) 18 out.new result }
+// A refusal without a place.
+pub fn refused<const CAP: usize>(out: &mut ArrayString<CAP>, number: u32)
+    requires { length out.old.bytes + 18 ≤ CAP }
+    ensures text { out.new.bytes ≡ out.old.bytes ++ refused_text number }
+    ensures short { length out.new.bytes ≤ length out.old.bytes + 18 }
 {
-    let next = text::word(out, 0, b"refused ");
-    text::number(out, next, number as u64)
+    out.push_str("refused ");
+    out.push_str(Buffer::new().format(number));
 }
 
-// A refusal with its place, at the start of the bytes.
-pub fn placed(out: &mut [u8], number: u32, place: usize) -> usize
-    requires { 42 ≤ length out.old }
-    ensures { Piece out.old 0 (placed_text number place) 42 out.new result }
+// A refusal with its place.
+pub fn placed<const CAP: usize>(out: &mut ArrayString<CAP>, number: u32, place: usize)
+    requires { length out.old.bytes + 42 ≤ CAP }
+    ensures text { out.new.bytes ≡ out.old.bytes ++ placed_text number place }
+    ensures short { length out.new.bytes ≤ length out.old.bytes + 42 }
 {
-    let second = refused(out, number);
-    let third = text::word(out, second, b" at ");
-    text::number(out, third, place as u64)
+    refused(out, number);
+    out.push_str(" at ");
+    out.push_str(Buffer::new().format(place));
 }

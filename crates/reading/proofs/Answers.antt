@@ -1,40 +1,47 @@
 -- What the line needs of an answer: a record's count and part are short. And that a question has one line.
 --
 --   found_fits      a record's count and its part
---   tells           a line that was written is the line of its answer
+--   tells_malformed, tells_refused   a refusal is told by its number and its place, or by its number alone
 --   tells_unique    a question has one line
 --   tells_exists    .. and always one
 --   line_unique     two results that meet the contract of `line` are equal
 use Prim.Native.Nat.{ℕ, ◌≤◌}
-use mathlib.Core.Path.{◌≡◌, refl, ap, ◌∙◌, subst}
+use mathlib.Core.Path.{◌≡◌, refl, sym, ap, ◌∙◌, subst}
+use mathlib.Core.Logic.{◌⊎◌, ⊎_elim}
 use mathlib.Core.List.{List}
-use native.Mathlib.Omega.{arith}
 use lib.ListN.{length}
-use Rattle.io.specs.Counts.{IsPrefixLen}
-use Rattle.records.specs.Block.{record_bits, bytes_for}
+use Rattle.records.specs.declared.Refusal as records
+use Rattle.records.specs.Block.{record_bits, bytes_for, number_of, place_of}
 use Rattle.antennas.specs.declared.Seen.{Seen}
-use Rattle.antennas.specs.declared.About.{About}
-use Rattle.antennas.specs.declared.About.TheVariants as A
-use Rattle.antennas.specs.Antennas.{read_count, Read, part_of, Part}
-use Rattle.text.specs.Text.{Wrote, Writes}
-use Rattle.text.proofs.Writing.{writes_unique, wrote_counts}
+use Rattle.std.specs.Prelude.{Ok, Err}
+use Rattle.antennas.specs.declared.Refusal.TheVariants as Reasons
+use Rattle.antennas.specs.declared.Refusal.{Refusal}
+use Rattle.antennas.specs.Antennas.{About, refusal_number, read_count, Read, part_of, Part}
+use Rattle.text.specs.Text.{Writes}
+use Rattle.text.proofs.Writing.{writes_unique}
 use Rattle.antennas.proofs.Unique.{read_about_unique, part_unique, read_exists}
 use Rattle.antennas.proofs.Laws.{answers_agree, read_within}
-use Rattle.reading.specs.Line.{line_of, line_size, Tells, told}
+use Rattle.phrases.specs.Phrases.{refused_text, placed_text}
+use Rattle.reading.specs.Line.{line_of, Tells, told}
 
 module _ {first second : List ℕ} {meter ordinal : ℕ} {r : About} (h : Read first second meter ordinal r) where
-  pub found_fits : {x : Seen} {bytes : List ℕ} → Part first second meter ordinal bytes → r ≡ A.Found x → (x.count ≤ record_bits) × (length bytes ≡ bytes_for x.count)
+  pub found_fits : {x : Seen} {bytes : List ℕ} → Part first second meter ordinal bytes → r ≡ Ok x → (x.count ≤ record_bits) × (length bytes ≡ bytes_for x.count)
   found_fits {x} {bytes} p q =
       let e : read_count r ≡ x.count = ap read_count q in
       (subst (λ (n : ℕ). n ≤ record_bits) e (read_within first second meter ordinal r h).count_few, (answers_agree first second meter ordinal r bytes h p).as_many ∙ ap bytes_for e)
 
+told_by : {r : About} {e d : Refusal} (part : List ℕ) → r ≡ Err e → e ≡ d → line_of r part ≡ line_of (Err d) part
+told_by part is b = ap (λ (x : About). line_of x part) (is ∙ ap (λ (x : Refusal). Err x) b)
+
 module _ (first second : List ℕ) (meter ordinal : ℕ) where
-  pub tells : {r : About} {part old text new : List ℕ} {n : ℕ} → Read first second meter ordinal r → Part first second meter ordinal part → length new ≡ length old → length old ≡ line_size
-      → text ≡ line_of r part → Wrote old 0 text new n → Writes (Tells first second meter ordinal) old 0 new n × (IsPrefixLen n new × (n ≤ line_size))
-  tells {r} {part} {old} {text} {new} {n} h p l k e v =
-      let w = subst (λ (t : List ℕ). Wrote old 0 t new n) e v in
-      let c = wrote_counts w l in
-      (record { text = line_of r part; is = told h p; wrote = w }, (c, omega (arith, c.0)))
+  pub tells_malformed : {r : About} {e : Refusal} {part : List ℕ} {x : records.Refusal} → Read first second meter ordinal r → Part first second meter ordinal part → r ≡ Err e → e ≡ Reasons.Malformed x
+      → Tells first second meter ordinal (placed_text (number_of x) (place_of x))
+  tells_malformed {part} h p is b = subst (Tells first second meter ordinal) (told_by part is b) (told h p)
+
+  -- a refusal without a place is told by its number
+  pub tells_refused : {r : About} {e : Refusal} {part : List ℕ} {n : ℕ} → Read first second meter ordinal r → Part first second meter ordinal part → r ≡ Err e
+      → (e ≡ Reasons.BadMeter) ⊎ (e ≡ Reasons.NoRecord) → n ≡ refusal_number e → Tells first second meter ordinal (refused_text n)
+  tells_refused {part} {n} h p is c e = subst (Tells first second meter ordinal) (⊎_elim (λ b. told_by part is b ∙ ap refused_text (sym (e ∙ ap refusal_number b))) (λ b. told_by part is b ∙ ap refused_text (sym (e ∙ ap refusal_number b))) c) (told h p)
 
   pub tells_unique : {t t' : List ℕ} → Tells first second meter ordinal t → Tells first second meter ordinal t' → t ≡ t'
   tells_unique (told {about} {part} h p) (told {about = about'} {part = part'} h' p') =

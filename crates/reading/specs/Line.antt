@@ -6,13 +6,12 @@
 --   Tells first second meter ordinal text   the line of the question: "we name a meter and an ordinal from 1"; "a twin question over the same inputs answers the
 --                        bit count and the antenna, 1 or 2, or the refusal"
 -- The laws `tells_unique` and `tells_exists` say that a question has one line.
-use Rattle.std.specs.Prelude.{ℕ, ◌+◌, ◌/◌, ◌%◌, cond, List, [], ◌∷◌, ◌++◌, ltb}
+use Rattle.std.specs.Prelude.{ℕ, ◌+◌, ◌/◌, ◌%◌, cond, List, [], ◌∷◌, ◌++◌, ltb, Ok, Err}
 use Rattle.text.specs.Text.{decimal_of}
 use Rattle.phrases.specs.Phrases.{spaced, refused_text, placed_text}
 use Rattle.records.specs.Block.{number_of, place_of}
-use Rattle.antennas.specs.declared.About.{About}
-use Rattle.antennas.specs.declared.About.TheVariants as A
-use Rattle.antennas.specs.Antennas.{Read, Part}
+use Rattle.antennas.specs.declared.Refusal.TheVariants.{Malformed, BadMeter, NoRecord}
+use Rattle.antennas.specs.Antennas.{About, antenna_of, Read, Part}
 
 -- the ASCII codes of the digits: 48 for 0, 65 for A
 abbrev pub hex_digit : ℕ → ℕ
@@ -29,10 +28,10 @@ abbrev pub found_line : ℕ → ℕ → List ℕ → List ℕ
 found_line antenna count part = (spaced (decimal_of antenna) ++ spaced (decimal_of count)) ++ hex_of part
 
 abbrev pub line_of : About → List ℕ → List ℕ
-line_of (A.Found x) part = found_line x.antenna x.count part
-line_of (A.Malformed x) part = placed_text (number_of x) (place_of x)
-line_of A.BadMeter part = refused_text 14
-line_of A.NoRecord part = refused_text 18
+line_of (Ok x) part = found_line (antenna_of x.antenna) x.count part
+line_of (Err (Malformed x)) part = placed_text (number_of x) (place_of x)
+line_of (Err BadMeter) part = refused_text 14
+line_of (Err NoRecord) part = refused_text 18
 
 -- two numbers of at most ten digits, each with its space, and two digits for each of 64 bytes
 abbrev pub line_size : ℕ

@@ -14,7 +14,7 @@ use mathlib.Core.List.{List, [], ◌∷◌, ◌++◌, map, flatten, append_assoc
 use native.Mathlib.Omega.{arith}
 use lib.ListN.{length, length-append}
 use lib.Dec.{eqb}
-use Rattle.records.specs.declared.Form.TheVariants as F
+use Rattle.std.specs.Prelude.{Ok}
 use Rattle.records.specs.Block.{Entry, Parsed, parse}
 use Rattle.records.specs.Named.{named, brought, counts, moved}
 use Rattle.records.proofs.Blocks.{parse_append}
@@ -46,7 +46,7 @@ brought_moved m n (e ∷ es) = go (eqb e.meter m) (brought_moved m n es)
     go true h = ap (λ (x : List ℕ). e.bits ++ x) h
     go false h = h
 
-pub brought_join : (m : ℕ) (a b : List ℕ) → (parse a).form ≡ F.Sound → (parse b).form ≡ F.Sound → brought m (parse (a ++ b)).records ≡ brought m (parse a).records ++ brought m (parse b).records
+pub brought_join : (m : ℕ) (a b : List ℕ) → (parse a).form ≡ Ok tt → (parse b).form ≡ Ok tt → brought m (parse (a ++ b)).records ≡ brought m (parse a).records ++ brought m (parse b).records
 brought_join m a b p q =
     ap (λ (x : Parsed). brought m x.records) (parse_append a b p q)
     ∙ brought_append m (parse a).records (map (moved (length a)) (parse b).records)

@@ -11,24 +11,19 @@
 --   stands_where           a record stands wherever its bytes stand, with the same meter and bits: nothing outside them counts
 use Prim.Native.Nat.{ℕ, ◌+◌, ◌-◌, ◌*◌, ◌/◌, ◌^◌, ◌≤◌, ◌<◌}
 use mathlib.Core.Path.{◌≡◌, refl, sym, ap, ◌∙◌, subst}
-use mathlib.Core.Bool.{Bool, true, false, cond}
 use mathlib.Core.Logic.{◌↔◌}
 use mathlib.Core.List.{List}
 use native.Mathlib.Omega.{arith}
 use lib.ListN.{length, get_or, drop, length-drop}
 use lib.Seq.{length-take-le, get_or-take, get_or-drop, ext_get_or}
-use lib.Dec.{ltb, leb, eqb}
-use borrow.Author.Tests.{ltb-true, ltb-false, leb-false, eqb-true, eqb-false, eq-eqb, ne_eqb, lt-ltb, le-ltb, lt-leb}
 use Rattle.bits.specs.Bits.{num, digits, Below, bit_at}
 use Rattle.bits.proofs.Bits.{unpacked_bit, spare_bits}
 use Rattle.bits.proofs.Laws.{below-take}
 use Rattle.records.specs.declared.Record.{Record}
+use Rattle.std.specs.Prelude.{Some, Ok, Err}
+use Rattle.std.proofs.lemmas.Bool.Decides.{nat_tests}
 use Rattle.records.specs.declared.Refusal.{Refusal}
-use Rattle.records.specs.declared.Refusal.TheVariants.{ShortHeader, WrongMark, BadMeter, BadCount, RunsPast, SpareBit}
-use Rattle.records.specs.declared.Head.{Head}
-use Rattle.records.specs.declared.Head.TheVariants as H
 use Rattle.records.specs.Block.{header_size, meter_at, count_at, mark_word, meters, record_bits, two_bytes, bytes_for, payload, judged, head_at, entry_of}
-use Rattle.records.proofs.Cond.{yes, no}
 
 pub record Stands (block : List ℕ) (at : ℕ) (r : Record) : Type 0 where
   pub starts : r.start ≡ at + header_size
@@ -51,89 +46,31 @@ pub spare_rule : (block : List ℕ) (start count : ℕ) → Below 256 block
     → (num 256 (payload block start count) < 2 ^ count) ↔ ((i : ℕ) → count ≤ i → bit_at (payload block start count) i ≡ 0)
 spare_rule block start count l = spare_bits (payload block start count) count (below-payload block start count l)
 
--- ---- from the parser's answer
-passed : (t : Bool) (h x : Head) (r : Record) → (h ≡ H.Found r → ⊥) → cond t h x ≡ H.Found r → (t ≡ false) × (x ≡ H.Found r)
-passed true h x r n e = absurd (n e)
-passed false h x r n e = (refl, e)
-
-kept : (t : Bool) (h x : Head) (r : Record) → (x ≡ H.Found r → ⊥) → cond t h x ≡ H.Found r → (t ≡ true) × (h ≡ H.Found r)
-kept true h x r n e = (refl, e)
-kept false h x r n e = absurd (n e)
-
-refusal_not : (x : Refusal) (r : Record) → H.Refused x ≡ H.Found r → ⊥
-refusal_not x r e = let z : ◌≡◌ {A = ℕ} 0 1 = cc in omega arith
-
-end_not : (r : Record) → H.End ≡ H.Found r → ⊥
-end_not r e = let z : ◌≡◌ {A = ℕ} 0 1 = cc in omega arith
-
-same_record : (a r : Record) → H.Found a ≡ H.Found r → a ≡ r
-same_record a r e = cc
-
+-- ---- from the parser's answer, and back
 module _ (block : List ℕ) (at : ℕ) (r : Record) where
-  judged_stands : at + header_size ≤ length block
-      → judged block at (two_bytes block at) (two_bytes block (at + meter_at)) (two_bytes block (at + count_at)) ≡ H.Found r → Stands block at r
-  unfolding judged
-  judged_stands l e =
-      let meter = two_bytes block (at + meter_at) in
-      let count = two_bytes block (at + count_at) in
-      let start = at + header_size in
-      let t1 = kept (eqb (two_bytes block at) mark_word) _ _ r (refusal_not (WrongMark at) r) e in
-      let t2 = passed (eqb meter 0) _ _ r (refusal_not (BadMeter at) r) t1.1 in
-      let t3 = passed (ltb meters meter) _ _ r (refusal_not (BadMeter at) r) t2.1 in
-      let t4 = passed (eqb count 0) _ _ r (refusal_not (BadCount at) r) t3.1 in
-      let t5 = passed (ltb record_bits count) _ _ r (refusal_not (BadCount at) r) t4.1 in
-      let t6 = passed (ltb (length block - start) (bytes_for count)) _ _ r (refusal_not (RunsPast at) r) t5.1 in
-      let t7 = kept (ltb (num 256 (payload block start count)) (2 ^ count)) _ _ r (refusal_not (SpareBit at) r) t6.1 in
-      subst (Stands block at) (same_record _ r t7.1)
-      (record {
-        starts = refl;
-        ends = refl;
-        last = omega (arith, ltb-false (length block - start) (bytes_for count) t6.0);
-        mark_is = eqb-true (two_bytes block at) mark_word t1.0;
-        meter_is = refl;
-        count_is = refl;
-        meter_low = omega (arith, eqb-false meter 0 t2.0);
-        meter_high = ltb-false meters meter t3.0;
-        count_low = omega (arith, eqb-false count 0 t4.0);
-        count_high = ltb-false record_bits count t5.0;
-        spare = ltb-true (num 256 (payload block start count)) (2 ^ count) t7.0;
-      })
-
-  pub found_stands : head_at block at ≡ H.Found r → Stands block at r
-  unfolding head_at
-  found_stands e =
-      let t1 = passed (leb (length block) at) _ _ r (end_not r) e in
-      let t2 = passed (ltb (length block - at) header_size) _ _ r (refusal_not (ShortHeader at) r) t1.1 in
-      let h = leb-false (length block) at t1.0 in
-      judged_stands (omega (arith, ltb-false (length block - at) header_size t2.0)) t2.1
-
-  -- ---- and back
-  fields : (meter count start next : ℕ) → meter ≡ r.meter → count ≡ r.count → start ≡ r.start → next ≡ r.next
-      → H.Found (record { meter = meter; count = count; start = start; next = next }) ≡ H.Found r
-  fields meter count start next a b c d = λ i. H.Found (record { meter = a i; count = b i; start = c i; next = d i })
-
-  pub stands_found : Stands block at r → head_at block at ≡ H.Found r
+  pub found_stands : head_at block at ≡ Ok (Some r) → Stands block at r
   unfolding head_at judged
-  stands_found s =
-      let meter = two_bytes block (at + meter_at) in
-      let count = two_bytes block (at + count_at) in
-      let start = at + header_size in
-      let m = s.meter_is in
-      let n = s.count_is in
-      let long : start + bytes_for count ≤ length block = omega (arith, s.starts, s.ends, s.last) in
-      let spare : num 256 (payload block start count) < 2 ^ count =
-      subst (λ (k : ℕ). num 256 (payload block start k) < 2 ^ k) (sym n)
-      (subst (λ (k : ℕ). num 256 (payload block k r.count) < 2 ^ r.count) s.starts s.spare) in
-      no _ _ (lt-leb (length block) at (omega arith))
-      ∙ no _ _ (le-ltb (length block - at) header_size (omega arith))
-      ∙ yes _ _ (eq-eqb (two_bytes block at) mark_word s.mark_is)
-      ∙ no _ _ (ne_eqb meter 0 (λ z. omega (arith, s.meter_low)))
-      ∙ no _ _ (le-ltb meters meter (omega (arith, s.meter_high)))
-      ∙ no _ _ (ne_eqb count 0 (λ z. omega (arith, s.count_low)))
-      ∙ no _ _ (le-ltb record_bits count (omega (arith, s.count_high)))
-      ∙ no _ _ (le-ltb (length block - start) (bytes_for count) (omega arith))
-      ∙ yes _ _ (lt-ltb (num 256 (payload block start count)) (2 ^ count) spare)
-      ∙ fields meter count start (start + bytes_for count) m n (sym s.starts) (sym (s.ends ∙ ap (λ (k : ℕ). k + bytes_for r.count) s.starts ∙ ap (λ (k : ℕ). start + bytes_for k) (sym n)))
+  found_stands e = record {
+    starts = grind (arith, nat_tests, e);
+    ends = grind (arith, nat_tests, e);
+    last = grind (arith, nat_tests, e);
+    mark_is = grind (arith, nat_tests, e);
+    meter_is = grind (arith, nat_tests, e);
+    count_is = grind (arith, nat_tests, e);
+    meter_low = grind (arith, nat_tests, e);
+    meter_high = grind (arith, nat_tests, e);
+    count_low = grind (arith, nat_tests, e);
+    count_high = grind (arith, nat_tests, e);
+    spare = grind (arith, nat_tests, e);
+  }
+
+  pub stands_found : Stands block at r → head_at block at ≡ Ok (Some r)
+  unfolding head_at judged
+  stands_found s = grind (arith, nat_tests, s)
+
+  -- ---- a record or a refusal leads on inside the block
+  pub found_ahead : head_at block at ≡ Ok (Some r) → (at < r.next) × (r.next ≤ length block)
+  found_ahead e = let s = found_stands e in (omega (arith, s.starts, s.ends), s.last)
 
   -- ---- what a record that stands keeps to
   module _ (s : Stands block at r) where
@@ -150,6 +87,10 @@ module _ (block : List ℕ) (at : ℕ) (r : Record) where
 
     pub entry_spare : Below 256 block → (i : ℕ) → r.count ≤ i → bit_at (payload block r.start r.count) i ≡ 0
     entry_spare l = (spare_rule block r.start r.count l).0 s.spare
+
+pub refused_inside : (block : List ℕ) (at : ℕ) (x : Refusal) → head_at block at ≡ Err x → at < length block
+unfolding head_at
+refused_inside block at x e = grind (arith, nat_tests, e)
 
 pub bytes_few : (count : ℕ) → (count ≤ 8 * bytes_for count) × ((n : ℕ) → count ≤ 8 * n → bytes_for count ≤ n)
 bytes_few count = (omega arith, λ n h. omega arith)

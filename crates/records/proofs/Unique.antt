@@ -8,9 +8,7 @@ use mathlib.Core.List.{List}
 use native.Mathlib.Omega.{arith}
 use Rattle.records.specs.declared.Refusal.{Refusal}
 use Rattle.records.specs.declared.Refusal.TheVariants as X
-use Rattle.records.specs.declared.Head.{Head}
-use Rattle.records.specs.declared.Form.{Form}
-use Rattle.records.specs.Block.{two_bytes, head_at, form_of, number_of, place_of}
+use Rattle.records.specs.Block.{two_bytes, Head, head_at, Form, form_of, number_of, place_of}
 
 pub record_at_unique : (block : List ℕ) (at : ℕ) (x y : Head) → x ≡ head_at block at → y ≡ head_at block at → x ≡ y
 record_at_unique block at x y p q = p ∙ sym q

@@ -6,19 +6,17 @@
 --   bytes_for count               "then the bits in as few bytes as hold them"
 --   payload block start count    the bytes that hold a record's bits
 --   number_of x, place_of x        the number of a refusal, and its place: "the first byte of the offending record, or 0 for 10 and 11"
---   judged, head_at block at      the record at a position, or its refusal: "each 12 (short header), 13, 14, 15, 12 (bits past end), 16"
+--   judged                        a record by its header, or its refusal: ".. 13, 14, 15, 12 (bits past end), 16"
+--   head_at block at              the record at a position, or its refusal, or that the block ends: "each 12 (short header), 13, 14, 15, 12 (bits past end), 16"
 --   Entry, entry_of               a record as its readers see it: where it begins, where its bits start, where the next record begins, its meter and its bits
 --   parse block                  "records end to end", up to the end of the block or the first refusal
 --   form_of block                 "11, then records in order"
-use Rattle.std.specs.Prelude.{ℕ, zero, suc, ◌+◌, ◌-◌, ◌*◌, ◌/◌, ◌^◌, List, [], ◌∷◌, cond, length, get_or, take, drop, ltb, leb, eqb}
+--   Head, Form                    what stands at a position, and what the form of a block is; each may be a refusal
+use Rattle.std.specs.Prelude.{ℕ, zero, suc, ◌+◌, ◌-◌, ◌*◌, ◌/◌, ◌^◌, List, [], ◌∷◌, cond, length, get_or, take, drop, ltb, leb, eqb, Option, Some, None, Result, Ok, Err}
 use Rattle.bits.specs.Bits.{num, digits}
 use Rattle.records.specs.declared.Record.{Record}
 use Rattle.records.specs.declared.Refusal.{Refusal}
 use Rattle.records.specs.declared.Refusal.TheVariants.{TooLong, ShortHeader, WrongMark, BadMeter, BadCount, RunsPast, SpareBit}
-use Rattle.records.specs.declared.Head.{Head}
-use Rattle.records.specs.declared.Head.TheVariants as H
-use Rattle.records.specs.declared.Form.{Form}
-use Rattle.records.specs.declared.Form.TheVariants as F
 
 abbrev pub header_size : ℕ
 header_size = 6
@@ -68,25 +66,35 @@ place_of (BadCount p) = p
 place_of (RunsPast p) = p
 place_of (SpareBit p) = p
 
+abbrev pub Head : Type 0
+Head = Result (Option Record) Refusal
+
+abbrev pub Form : Type 0
+Form = Result (Unit {0}) Refusal
+
 -- a whole header, by its three numbers; that the number of the bytes is below 2 to the count says "spare high bits of the last byte zero" (law `spare_rule`)
-unfoldable pub judged : List ℕ → ℕ → ℕ → ℕ → ℕ → Head
+unfoldable pub judged : List ℕ → ℕ → ℕ → ℕ → ℕ → Result Record Refusal
 judged block at mark meter count =
     cond (eqb mark mark_word)
-    (cond (eqb meter 0) (H.Refused (BadMeter at))
-    (cond (ltb meters meter) (H.Refused (BadMeter at))
-    (cond (eqb count 0) (H.Refused (BadCount at))
-    (cond (ltb record_bits count) (H.Refused (BadCount at))
-    (cond (ltb (length block - (at + header_size)) (bytes_for count)) (H.Refused (RunsPast at))
+    (cond (eqb meter 0) (Err (BadMeter at))
+    (cond (ltb meters meter) (Err (BadMeter at))
+    (cond (eqb count 0) (Err (BadCount at))
+    (cond (ltb record_bits count) (Err (BadCount at))
+    (cond (ltb (length block - (at + header_size)) (bytes_for count)) (Err (RunsPast at))
     (cond (ltb (num 256 (payload block (at + header_size) count)) (2 ^ count))
-    (H.Found (record { meter = meter; count = count; start = at + header_size; next = at + header_size + bytes_for count }))
-    (H.Refused (SpareBit at))))))))
-    (H.Refused (WrongMark at))
+    (Ok (record { meter = meter; count = count; start = at + header_size; next = at + header_size + bytes_for count }))
+    (Err (SpareBit at))))))))
+    (Err (WrongMark at))
+
+abbrev pub head_of : Result Record Refusal → Head
+head_of (Ok r) = Ok (Some r)
+head_of (Err x) = Err x
 
 unfoldable pub head_at : List ℕ → ℕ → Head
 head_at block at =
-    cond (leb (length block) at) H.End
-    (cond (ltb (length block - at) header_size) (H.Refused (ShortHeader at))
-    (judged block at (two_bytes block at) (two_bytes block (at + meter_at)) (two_bytes block (at + count_at))))
+    cond (leb (length block) at) (Ok None)
+    (cond (ltb (length block - at) header_size) (Err (ShortHeader at))
+    (head_of (judged block at (two_bytes block at) (two_bytes block (at + meter_at)) (two_bytes block (at + count_at)))))
 
 pub record Entry : Type 0 where
   pub at : ℕ
@@ -105,17 +113,17 @@ pub record Parsed : Type 0 where
   pub form : Form
 
 abbrev pub on_head : Head → List ℕ → ℕ → (ℕ → Parsed) → Parsed
-on_head (H.Found r) block at go = record { records = entry_of block at r ∷ (go r.next).records; form = (go r.next).form }
-on_head (H.Refused x) block at go = record { records = []; form = F.Refused x }
-on_head H.End block at go = record { records = []; form = F.Sound }
+on_head (Ok (Some r)) block at go = record { records = entry_of block at r ∷ (go r.next).records; form = (go r.next).form }
+on_head (Ok None) block at go = record { records = []; form = Ok tt }
+on_head (Err x) block at go = record { records = []; form = Err x }
 
 -- by a number of turns, of which one more than the length is enough: each record has a byte at least
 unfoldable pub parse_from : ℕ → List ℕ → ℕ → Parsed
-parse_from zero block at = record { records = []; form = F.Sound }
+parse_from zero block at = record { records = []; form = Ok tt }
 parse_from (suc turns) block at = on_head (head_at block at) block at (parse_from turns block)
 
 unfoldable pub parse : List ℕ → Parsed
 parse block = parse_from (length block + 1) block 0
 
 unfoldable pub form_of : List ℕ → Form
-form_of block = cond (ltb block_bytes (length block)) (F.Refused TooLong) (parse block).form
+form_of block = cond (ltb block_bytes (length block)) (Err TooLong) (parse block).form

@@ -2,11 +2,15 @@
 // The contracts cite Block of specs/.
 #![tactic(auto)]
 
-ghost use Rattle.std.specs.Prelude.{◌≡◌, ◌+◌, ◌<◌, ◌≤◌, length};
+ghost use Rattle.std.specs.Prelude.{◌≡◌, ◌+◌, ◌-◌, ◌<◌, ◌≤◌, length};
+ghost use Rattle.std.specs.Iterator.{at_most};
 ghost use Rattle.records.specs.Block.{header_size, two_bytes, judged, head_at, form_of, number_of, place_of};
+ghost use Rattle.records.specs.Steps.{Steps};
 
-// The mark, 5A C3, as a number of two bytes.
-const MARK: usize = 23235;
+use refusals::Numbered;
+
+// The mark, as a number of two bytes.
+const MARK: usize = 0x5AC3;
 
 // The bytes of a header, and where its meter and its count stand in it.
 pub const HEADER: usize = 6;
@@ -32,7 +36,7 @@ pub struct Record {
 }
 
 // Why a block is refused for its form. Each case but the first has its place.
-#[derive(Clone, Copy)]
+#[derive(Clone, Copy, PartialEq, Eq)]
 pub enum Refusal {
     TooLong,
     ShortHeader(usize),
@@ -43,47 +47,35 @@ pub enum Refusal {
     SpareBit(usize),
 }
 
-// What stands at a position.
-#[derive(Clone, Copy)]
-pub enum Head {
-    Found(Record),
-    Refused(Refusal),
-    End,
-}
+impl Numbered for Refusal {
+    ghost number = { number_of };
 
-#[derive(Clone, Copy)]
-pub enum Form {
-    Sound,
-    Refused(Refusal),
-}
-
-// The document's number for a refusal.
-pub fn number(x: Refusal) -> u32
-    ensures { result ≡ number_of x }
-{
-    match x {
-        Refusal::TooLong => 11,
-        Refusal::ShortHeader(_) => 12,
-        Refusal::WrongMark(_) => 13,
-        Refusal::BadMeter(_) => 14,
-        Refusal::BadCount(_) => 15,
-        Refusal::RunsPast(_) => 12,
-        Refusal::SpareBit(_) => 16,
+    fn number(self) -> u32 {
+        match self {
+            Refusal::TooLong => 11,
+            Refusal::ShortHeader(_) | Refusal::RunsPast(_) => 12,
+            Refusal::WrongMark(_) => 13,
+            Refusal::BadMeter(_) => 14,
+            Refusal::BadCount(_) => 15,
+            Refusal::SpareBit(_) => 16,
+        }
     }
 }
 
-// The place that a refusal returns.
-pub fn place(x: Refusal) -> usize
-    ensures { result ≡ place_of x }
-{
-    match x {
-        Refusal::TooLong => 0,
-        Refusal::ShortHeader(p) => p,
-        Refusal::WrongMark(p) => p,
-        Refusal::BadMeter(p) => p,
-        Refusal::BadCount(p) => p,
-        Refusal::RunsPast(p) => p,
-        Refusal::SpareBit(p) => p,
+impl Refusal {
+    // The place that a refusal returns.
+    pub fn place(self) -> usize
+        ensures { result ≡ place_of self }
+    {
+        match self {
+            Refusal::TooLong => 0,
+            Refusal::ShortHeader(at)
+            | Refusal::WrongMark(at)
+            | Refusal::BadMeter(at)
+            | Refusal::BadCount(at)
+            | Refusal::RunsPast(at)
+            | Refusal::SpareBit(at) => at,
+        }
     }
 }
 
@@ -92,78 +84,114 @@ pub fn two_bytes(bytes: &[u8], at: usize) -> usize
     requires { at + 1 < length bytes.now }
     ensures { (result ≡ two_bytes bytes.now at) × (result < 65536) }
 {
-    256 * bits::wide(bytes[at]) + bits::wide(bytes[at + 1])
+    usize::from(u16::from_be_bytes([bytes[at], bytes[at + 1]]))
 }
 
-// A header by its three numbers: the tests in the document's order, each refusal with its place.
-fn judge(block: &[u8], at: usize, mark: usize, meter: usize, count: usize) -> Head
-    requires { at + header_size ≤ length block.now }
-    ensures { result ≡ judged block.now at mark meter count }
-{
-    if mark != MARK {
-        return Head::Refused(Refusal::WrongMark(at));
-    }
-    if meter == 0 {
-        return Head::Refused(Refusal::BadMeter(at));
-    }
-    if METERS < meter {
-        return Head::Refused(Refusal::BadMeter(at));
-    }
-    if count == 0 {
-        return Head::Refused(Refusal::BadCount(at));
-    }
-    if RECORD_BITS < count {
-        return Head::Refused(Refusal::BadCount(at));
-    }
-    let start = at + HEADER;
-    let bytes = (count + 7) / 8;
-    if block.len() - start < bytes {
-        return Head::Refused(Refusal::RunsPast(at));
-    }
-    let next = start + bytes;
-    if bits::clear_past(&block[start..next], count) {
-        Head::Found(Record {
-            meter: meter,
-            count: count,
-            start: start,
-            next: next,
+// The three numbers of a header.
+#[derive(Clone, Copy)]
+struct Header {
+    mark: usize,
+    meter: usize,
+    count: usize,
+}
+
+impl Header {
+    // The record of this header: the tests in the document's order, each refusal with its place.
+    #[tactic(auto, unfolding(crate::specs::Block::judged))]
+    fn judge(self, block: &[u8], at: usize) -> Result<Record, Refusal>
+        requires { at + header_size ≤ length block.now }
+        ensures { result ≡ judged block.now at self.mark self.meter self.count }
+    {
+        if self.mark != MARK {
+            return Err(Refusal::WrongMark(at));
+        }
+        if !(1..=METERS).contains(&self.meter) {
+            return Err(Refusal::BadMeter(at));
+        }
+        if !(1..=RECORD_BITS).contains(&self.count) {
+            return Err(Refusal::BadCount(at));
+        }
+        let start = at + HEADER;
+        let next = start + self.count.div_ceil(8);
+        let Some(payload) = block.get(start..next) else {
+            return Err(Refusal::RunsPast(at));
+        };
+        if !bits::clear_past(payload, self.count) {
+            return Err(Refusal::SpareBit(at));
+        }
+        Ok(Record {
+            meter: self.meter,
+            count: self.count,
+            start,
+            next,
         })
-    } else {
-        Head::Refused(Refusal::SpareBit(at))
     }
 }
 
 // The record at a position; at the end of the block, and past it, there is none.
-pub fn record_at(block: &[u8], at: usize) -> Head
+#[tactic(auto, unfolding(crate::specs::Block::head_at))]
+pub fn record_at(block: &[u8], at: usize) -> Result<Option<Record>, Refusal>
     ensures { result ≡ head_at block.now at }
 {
     if block.len() <= at {
-        return Head::End;
+        return Ok(None);
     }
     if block.len() - at < HEADER {
-        return Head::Refused(Refusal::ShortHeader(at));
+        return Err(Refusal::ShortHeader(at));
     }
-    let mark = two_bytes(block, at);
-    let meter = two_bytes(block, at + METER_AT);
-    let count = two_bytes(block, at + COUNT_AT);
-    judge(block, at, mark, meter, count)
+    let header = Header {
+        mark: two_bytes(block, at),
+        meter: two_bytes(block, at + METER_AT),
+        count: two_bytes(block, at + COUNT_AT),
+    };
+    Ok(Some(header.judge(block, at)?))
+}
+
+// What a block has from a position on: its records one after another, up to its end, or up to a refusal, which is the last.
+#[derive(Drop)]
+pub struct Records<'a> {
+    pub block: &'a [u8],
+    pub at: usize,
+}
+
+impl<'a> Records<'a> {
+    // All records of a block.
+    pub fn of(block: &'a [u8]) -> Records<'a>
+        ensures block { result.block.now ≡ block.now }
+        ensures at { result.at ≡ 0 }
+    {
+        Records { block, at: 0 }
+    }
+}
+
+impl<'a> Iterator for Records<'a> {
+    type Item = Result<Record, Refusal>;
+
+    ghost next_gives = { Steps };
+
+    ghost remaining = { λ s. at_most (length s.block.now - s.at) };
+
+    #[tactic(auto, using(crate::proofs::Standing::found_ahead, crate::proofs::Standing::refused_inside))]
+    fn next(&mut self) -> Option<Result<Record, Refusal>> {
+        let next = record_at(self.block, self.at).transpose()?;
+        self.at = match next {
+            Ok(record) => record.next,
+            Err(_) => self.block.len(),
+        };
+        Some(next)
+    }
 }
 
 // The form of a whole block: the first refusal in the document's order, if there is one.
-pub fn form_of(block: &[u8]) -> Form
+#[tactic(auto, unfolding(crate::specs::Block::form_of))]
+pub fn form_of(block: &[u8]) -> Result<(), Refusal>
     ensures { result ≡ form_of block.now }
 {
     if BLOCK_BYTES < block.len() {
-        return Form::Refused(Refusal::TooLong);
+        return Err(Refusal::TooLong);
     }
-    let mut at = 0;
-    loop {
-        match record_at(block, at) {
-            Head::Found(r) => {
-                at = r.next;
-            }
-            Head::Refused(x) => return Form::Refused(x),
-            Head::End => return Form::Sound,
-        }
+    for record in Records::of(block) {
+        record?;
     }
+    Ok(())
 }

@@ -1,16 +1,13 @@
 -- The key max(|p|, |q|) M² + |p| M + |q|: a norm, and for pairs below M the order of the document up to the sign: size, then |p|, then |q|.
-use mathlib.Core.Path.{◌≡◌, refl, sym, ◌∙◌, ap, ap₂}
-use mathlib.Core.Bool.{Bool, true, false}
+use mathlib.Core.Path.{◌≡◌, ◌∙◌, ap, ap₂}
 use mathlib.Core.Logic.{◌⊎◌, inl, inr, ◌↔◌}
 use Prim.Native.Nat.{ℕ, suc, ◌+◌, ◌*◌, ◌<◌, ◌≤◌, max}
 use native.Mathlib.Omega.{arith}
 use native.Mathlib.Nat.{mul-le-mul_left, mul-le-mul_right, max-eq_left, max-eq_right}
 use native.Mathlib.Decide.{dec_le}
-use lib.Dec.{leb}
 use lib.IntN.{ℤ, ◌+ℤ◌, nat_abs}
-use borrow.Author.Tests.{leb-true, leb-false}
 use Rattle.integers.proofs.Parts.{nat_abs-+, nat_abs-*}
-use Rattle.reduction.specs.Vectors.{size, norm, Lex, Ordered}
+use Rattle.reduction.specs.Vectors.{size, norm, Lex}
 use Rattle.reduction.proofs.Norm.{Norm}
 
 max_mul : (c a b : ℕ) → max (c * a) (c * b) ≡ c * max a b
@@ -96,11 +93,3 @@ no_larger M p q p' q' h' k' l = below M (nat_abs p) (nat_abs q) (nat_abs p') (na
 -- so only the second pair need be below M
 pub before_of : (M : ℕ) (p q p' q' : ℤ) → nat_abs p' < M → nat_abs q' < M → norm M p q ≤ norm M p' q' → Before p q p' q'
 before_of M p q p' q' h' k' l = let e = no_larger M p q p' q' h' k' l in (before_iff M p q p' q' (omega arith) (omega arith) h' k').0 l
-
--- the last test of code on two pairs of sizes
-pub ordered_last : (a b c d : ℕ) → max a b ≡ max c d → a ≡ c → Ordered a b c d (leb b d)
-ordered_last a b c d h k = go (leb b d) refl
-  where
-    go : (t : Bool) → leb b d ≡ t → Ordered a b c d t
-    go true e = inr (h, inr (k, leb-true b d e))
-    go false e = let l = leb-false b d e in inr (sym h, inr (sym k, omega arith))

@@ -13,9 +13,9 @@ use Rattle.integers.proofs.Sizes.{abs--, abs-*}
 use Rattle.integers.proofs.Ring.{#, lit, ◌⊕◌, ◌⊗◌, ◌⊖◌, ring2, ring5, ◌≔◌}
 use Rattle.bits.specs.Bits.{bit_at, value}
 use Rattle.reduction.specs.Vectors.{Vect, K, Fit, off, twice, rest, norm, Within}
-use Rattle.reduction.specs.Reduced.{Reduced, big, Pick, fst, snd, Turned}
+use Rattle.reduction.specs.Reduced.{Reduced, big, Turned}
 use Rattle.reduction.proofs.Vectors.{fit_of}
-use Rattle.reduction.proofs.Keys.{Before, before_of, before_iff, no_larger}
+use Rattle.reduction.proofs.Keys.{Before, before_of, no_larger}
 use Rattle.reduction.proofs.Turns.{extend_reduced, side_even}
 use Rattle.bits.proofs.Values.{value_lt}
 
@@ -37,14 +37,6 @@ module _ {M t : ℕ} {A : ℤ} {f g : Vect} (R : Reduced M A (pos t) f g) where
 
   pub g_small : nat_abs A < M → 1 < M → size g ≤ max (nat_abs A) 1
   g_small h k = no_larger M g.p g.q A (pos 1) h k (R.least_g (record { p = A; q = pos 1; r = pos 0 }) (ring2 (λ A T. A ≔ A ⊗ # 1 ⊕ T ⊗ # 0) tt A (pos t)) refl)
-
--- a choice by the document's order, of two vectors below M
-module _ (M : ℕ) (x y : Vect) (hx : size x < M) (hy : size y < M) where
-  pub pick_fst : Before x.p x.q y.p y.q → Pick M x y x
-  pick_fst h = fst ((before_iff M x.p x.q y.p y.q (omega arith) (omega arith) (omega arith) (omega arith)).1 h)
-
-  pub pick_snd : Before y.p y.q x.p x.q → Pick M x y y
-  pick_snd h = snd ((before_iff M y.p y.q x.p x.q (omega arith) (omega arith) (omega arith) (omega arith)).1 h)
 
 -- ---- after k bits
 abbrev pub At : List ℕ → ℕ → Vect → Vect → Type 0

@@ -3,7 +3,7 @@
 --   Vect               a pair (p, q) with its rest r
 --   Fit A T v          p = A q + T r. At T = 2 ^ k and the value A of k bits: the pair fits, and r is what is left
 --   plus, minus        g + f, g − f
---   off a v            r − a q: the pair fits one bit a more where this is even
+--   off a v, past a v  r − a q: the pair fits one bit a more where this is even; v with it for its rest
 --   twice a v, rest v h  2 v with its new rest; v with the new rest h
 --   Within n v         p, q and r are at most n
 --   size M a b, K M v  the key: max(|p|, |q|) M² + |p| M + |q|, below M the order "least size; among those, least |p|; then least q"
@@ -37,6 +37,9 @@ twice a v = record { p = pos 2 *ℤ v.p; q = pos 2 *ℤ v.q; r = off a v }
 
 abbrev pub rest : Vect → ℤ → Vect
 rest v h = record { p = v.p; q = v.q; r = h }
+
+abbrev pub past : ℤ → Vect → Vect
+past a v = rest v (off a v)
 
 pub record Within (n : ℕ) (v : Vect) : Type 0 where
   pub p_in : nat_abs v.p ≤ n

@@ -2,14 +2,18 @@
 // `start` and one `turn` for each bit; `search` does so for the first n bits. The contracts cite Vectors and Reduced of specs/.
 #![tactic(auto)]
 
-ghost use Rattle.std.specs.Prelude.{◌≡◌, ◌^◌, ◌≤◌, pos};
+ghost use Rattle.std.specs.Prelude.{◌≡◌, ◌^◌, ◌≤◌, pos, ◌*ℤ◌, unsigned_abs};
 ghost use Rattle.integers.specs.Numbers.{half_z};
-ghost use Rattle.reduction.specs.Vectors.{vect, plus, minus, off, twice, rest, Within};
+ghost use Rattle.reduction.specs.Vectors.{vect, plus, minus, past, rest, Within};
 ghost use Rattle.reduction.specs.Reduced.{big, Pick, Turned, Started, After};
 
 pub mod order; // order.rt: which of two pairs stands first
 
-// A pair with its rest: p = A q + 2^k rest, A the value of the first k bits.
+use integers::signed::half;
+use std::ops::{Add, Sub};
+
+// A pair with its rest: p = A q + 2^k rest, A the value of the first k bits. How large its values are stands in clauses and not in the type: each sum may take a bit
+// more, and a const argument that says how many cannot be computed.
 #[derive(Clone, Copy)]
 pub struct Vector {
     pub p: i64,
@@ -24,114 +28,126 @@ pub struct State {
     pub g: Vector,
 }
 
-fn sum(g: Vector, f: Vector) -> Vector
-    requires { Within (2 ^ 61) (vect g) × Within (2 ^ 61) (vect f) }
-    ensures { vect result ≡ plus (vect g) (vect f) }
-{
-    Vector {
-        p: integers::signed::add(g.p, f.p),
-        q: integers::signed::add(g.q, f.q),
-        rest: integers::signed::add(g.rest, f.rest),
-    }
-}
+// `+` and `-` differ in their operators alone; they are two traits of the language.
+impl Add for Vector {
+    type Output = Vector;
 
-fn difference(g: Vector, f: Vector) -> Vector
-    requires { Within (2 ^ 61) (vect g) × Within (2 ^ 61) (vect f) }
-    ensures { vect result ≡ minus (vect g) (vect f) }
-{
-    Vector {
-        p: integers::signed::sub(g.p, f.p),
-        q: integers::signed::sub(g.q, f.q),
-        rest: integers::signed::sub(g.rest, f.rest),
-    }
-}
+    ghost can_add = { λ g f. Within (2 ^ 61) (vect g) × Within (2 ^ 61) (vect f) };
 
-// rest - bit q: even where the pair fits one bit more.
-fn offset(v: Vector, bit: usize) -> i64
-    requires { Within (2 ^ 61) (vect v) × (bit ≤ 1) }
-    ensures { result ≡ off (pos bit) (vect v) }
-{
-    if bit == 0 {
-        v.rest
-    } else {
-        integers::signed::sub(v.rest, v.q)
-    }
-}
+    ghost add_gives = { λ g f r. vect r ≡ plus (vect g) (vect f) };
 
-fn doubled(v: Vector, bit: usize) -> Vector
-    requires { Within (2 ^ 61) (vect v) × (bit ≤ 1) }
-    ensures { vect result ≡ twice (pos bit) (vect v) }
-{
-    Vector {
-        p: integers::signed::add(v.p, v.p),
-        q: integers::signed::add(v.q, v.q),
-        rest: offset(v, bit),
-    }
-}
-
-fn halved(v: Vector, bit: usize) -> Vector
-    requires { Within (2 ^ 61) (vect v) × (bit ≤ 1) }
-    ensures { vect result ≡ rest (vect v) (half_z (off (pos bit) (vect v))) }
-{
-    Vector {
-        p: v.p,
-        q: v.q,
-        rest: integers::signed::half(offset(v, bit)),
-    }
-}
-
-// The one with the smaller key.
-fn smaller(x: Vector, y: Vector) -> Vector
-    requires { Within (2 ^ 61) (vect x) × Within (2 ^ 61) (vect y) }
-    ensures { Pick big (vect x) (vect y) (vect result) }
-{
-    if order::ordered(
-        integers::magnitude(x.p),
-        integers::magnitude(x.q),
-        integers::magnitude(y.p),
-        integers::magnitude(y.q),
-    ) {
-        x
-    } else {
-        y
-    }
-}
-
-// The state before any bit: the pairs (1, 0) and (0, 1).
-pub fn start() -> State
-    ensures { Started result }
-{
-    State {
-        f: Vector {
-            p: 1,
-            q: 0,
-            rest: 1,
-        },
-        g: Vector {
-            p: 0,
-            q: 1,
-            rest: 0,
-        },
-    }
-}
-
-// One bit more. Not an entry point: its callers in other crates show that the state is one of at most 60 bits.
-pub fn turn(x: State, bit: usize) -> State
-    requires { Within (2 ^ 60) (vect x.f) × Within (2 ^ 60) (vect x.g) × (bit ≤ 1) }
-    ensures { Turned (pos bit) (vect x.f) (vect x.g) (vect result.f) (vect result.g) }
-{
-    let f = x.f;
-    let g = x.g;
-    let s = smaller(sum(g, f), difference(g, f));
-    if integers::signed::is_odd(offset(g, bit)) {
-        State {
-            f: doubled(smaller(f, g), bit),
-            g: halved(s, bit),
+    fn add(self, f: Vector) -> Vector {
+        Vector {
+            p: self.p + f.p,
+            q: self.q + f.q,
+            rest: self.rest + f.rest,
         }
-    } else {
+    }
+}
+
+impl Sub for Vector {
+    type Output = Vector;
+
+    ghost can_sub = { λ g f. Within (2 ^ 61) (vect g) × Within (2 ^ 61) (vect f) };
+
+    ghost sub_gives = { λ g f r. vect r ≡ minus (vect g) (vect f) };
+
+    fn sub(self, f: Vector) -> Vector {
+        Vector {
+            p: self.p - f.p,
+            q: self.q - f.q,
+            rest: self.rest - f.rest,
+        }
+    }
+}
+
+impl Vector {
+    // Past a bit: rest - bit q in the rest's place, even where the pair fits one bit more.
+    fn past(self, bit: usize) -> Vector
+        requires { Within (2 ^ 60) (vect self) × (bit ≤ 1) }
+        ensures { vect result ≡ past (pos bit) (vect self) }
+    {
+        if bit == 0 {
+            self
+        } else {
+            Vector {
+                rest: self.rest - self.q,
+                ..self
+            }
+        }
+    }
+
+    fn doubled(self) -> Vector
+        requires { (unsigned_abs self.p ≤ 2 ^ 61) × (unsigned_abs self.q ≤ 2 ^ 61) }
+        ensures { vect result ≡ record (vect self) { p = pos 2 *ℤ self.p; q = pos 2 *ℤ self.q } }
+    {
+        Vector {
+            p: 2 * self.p,
+            q: 2 * self.q,
+            ..self
+        }
+    }
+
+    fn halved(self) -> Vector
+        ensures { vect result ≡ rest (vect self) (half_z self.rest) }
+    {
+        Vector {
+            rest: half(self.rest),
+            ..self
+        }
+    }
+
+    // The one with the smaller key.
+    fn smaller(self, other: Vector) -> Vector
+        ensures { Pick big (vect self) (vect other) (vect result) }
+    {
+        let (a, b) = (self.p.unsigned_abs(), self.q.unsigned_abs());
+        let (c, d) = (other.p.unsigned_abs(), other.q.unsigned_abs());
+        if order::ordered(a, b, c, d) {
+            self
+        } else {
+            other
+        }
+    }
+}
+
+impl State {
+    // The state before any bit: the pairs (1, 0) and (0, 1).
+    pub fn start() -> State
+        ensures { Started result }
+    {
         State {
-            f: doubled(smaller(f, s), bit),
-            g: halved(g, bit),
+            f: Vector {
+                p: 1,
+                q: 0,
+                rest: 1,
+            },
+            g: Vector {
+                p: 0,
+                q: 1,
+                rest: 0,
+            },
+        }
+    }
+
+    // One bit more. Not an entry point: its callers in other crates show that the state is one of at most 60 bits.
+    pub fn turn(self, bit: usize) -> State
+        requires { Within (2 ^ 60) (vect self.f) × Within (2 ^ 60) (vect self.g) × (bit ≤ 1) }
+        ensures { Turned (pos bit) (vect self.f) (vect self.g) (vect result.f) (vect result.g) }
+    {
+        let f = self.f.past(bit);
+        let g = self.g.past(bit);
+        let s = (g + f).smaller(g - f);
+        if g.rest % 2 == 0 {
+            State {
+                f: f.smaller(s).doubled(),
+                g: g.halved(),
+            }
+        } else {
+            State {
+                f: f.smaller(g).doubled(),
+                g: s.halved(),
+            }
         }
     }
 }
@@ -141,11 +157,9 @@ pub fn search(bytes: &[u8], n: usize) -> State
     requires { n ≤ 61 }
     ensures { After bytes.now n result }
 {
-    let mut x = start();
-    let mut i: usize = 0;
-    while i < n {
-        x = turn(x, bits::bit_at(bytes, i));
-        i += 1;
+    let mut x = State::start();
+    for i in 0..n {
+        x = x.turn(bits::bit_at(bytes, i));
     }
     x
 }

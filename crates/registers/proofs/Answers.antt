@@ -18,15 +18,18 @@ use Rattle.fractions.specs.Pairs.{Inside, Lowest}
 use Rattle.fractions.specs.Expansion.{iter_num, digits_to}
 use Rattle.fractions.proofs.Lowest.{lowest_unique, inside_lowest}
 use Rattle.registers.specs.Registers.{cell_count, Valid, Load, num_of, out_to}
-use Rattle.registers.specs.Answers.{Steps, stepped, step_number, step_bit, step_register, Loads, loaded, wide, load_number, load_register, ReadsBack, pair, read_number, read_p, read_q}
+use Rattle.registers.specs.Answers.{Steps, stepped, invalid_number, step_number, step_bit, step_register, Loads, loaded, wide, load_number, load_register, ReadsBack, pair, read_number, read_p, read_q}
 use Rattle.registers.specs.Answers as A
 use Rattle.registers.specs.declared.Register.{Register}
+use Rattle.std.specs.Prelude.{Result, Ok, Err}
+use Rattle.refusals.specs.Refusals.{number_of, field_of}
+use Rattle.fractions.specs.declared.Fraction.{Fraction}
+use Rattle.registers.specs.declared.Invalid.{Invalid}
 use Rattle.registers.specs.declared.Stepped.{Stepped}
-use Rattle.registers.specs.declared.Stepped.TheVariants as Step
-use Rattle.registers.specs.declared.Loaded.{Loaded}
-use Rattle.registers.specs.declared.Loaded.TheVariants as Load
-use Rattle.registers.specs.declared.ReadBack.{ReadBack}
-use Rattle.registers.specs.declared.ReadBack.TheVariants as Read
+use Rattle.registers.specs.declared.LoadRefusal.{LoadRefusal}
+use Rattle.registers.specs.declared.LoadRefusal.TheVariants as Load
+use Rattle.registers.specs.declared.ReadRefusal.{ReadRefusal}
+use Rattle.registers.specs.declared.ReadRefusal.TheVariants as Read
 use Rattle.taps.specs.Sums.{over_to}
 use Rattle.registers.proofs.Memory.{load_narrow}
 use Rattle.registers.proofs.States.{emits}
@@ -40,11 +43,17 @@ steps_same (stepped v) (A.Steps.invalid w) = absurd (w v)
 steps_same (A.Steps.invalid v) (stepped w) = absurd (v w)
 steps_same (A.Steps.invalid v) (A.Steps.invalid w) = (refl, refl, refl)
 
+bit_same : (a b : Result ℕ Invalid) → number_of invalid_number a ≡ number_of invalid_number b → field_of 0 (λ (x : ℕ). x) a ≡ field_of 0 (λ (x : ℕ). x) b → a ≡ b
+bit_same (Ok x) (Ok y) m f = ap Ok f
+bit_same (Ok x) (Err e) m f = absurd (omega arith)
+bit_same (Err e) (Ok y) m f = absurd (omega arith)
+bit_same (Err e) (Err f) m g = refl
+
 pub step_unique : (g : Register) (r s : Stepped) → Steps g (step_number r) (step_bit r) (step_register r) → Steps g (step_number s) (step_bit s) (step_register s) → r ≡ s
-step_unique g (Step.Next b x) (Step.Next c y) h k = let e = steps_same h k in ap₂ Step.Next e.1 e.2
-step_unique g (Step.Next b x) (Step.Invalid y) h k = absurd (omega (arith, (steps_same h k).0))
-step_unique g (Step.Invalid x) (Step.Next c y) h k = absurd (omega (arith, (steps_same h k).0))
-step_unique g (Step.Invalid x) (Step.Invalid y) h k = ap Step.Invalid (steps_same h k).2
+step_unique g r s h k =
+    let e = steps_same h k in
+    let bit = bit_same r.bit s.bit e.0 e.1 in
+    λ i. record { bit = bit i; register = e.2 i }
 
 -- ---- load
 pub loads_same : {p : ℤ} {q m n : ℕ} {x y : Register} → Loads p q m x → Loads p q n y → (m ≡ n) × (x ≡ y)
@@ -58,16 +67,16 @@ loads_same {p} {q} (wide g i a e) (loaded j b f) = absurd (omega (arith, f, e, a
 loads_same (wide g i a e) (A.outside j) = absurd (j i)
 loads_same (wide g i a e) (wide h j b f) = (refl, refl)
 
-pub load_unique : (p : ℤ) (q : ℕ) (r s : Loaded) → Loads p q (load_number r) (load_register r) → Loads p q (load_number s) (load_register s) → r ≡ s
-load_unique p q (Load.Into x) (Load.Into y) h k = ap Load.Into (loads_same h k).1
-load_unique p q (Load.Into x) Load.Outside h k = absurd (omega (arith, (loads_same h k).0))
-load_unique p q (Load.Into x) Load.Wide h k = absurd (omega (arith, (loads_same h k).0))
-load_unique p q Load.Outside (Load.Into y) h k = absurd (omega (arith, (loads_same h k).0))
-load_unique p q Load.Outside Load.Outside h k = refl
-load_unique p q Load.Outside Load.Wide h k = absurd (omega (arith, (loads_same h k).0))
-load_unique p q Load.Wide (Load.Into y) h k = absurd (omega (arith, (loads_same h k).0))
-load_unique p q Load.Wide Load.Outside h k = absurd (omega (arith, (loads_same h k).0))
-load_unique p q Load.Wide Load.Wide h k = refl
+pub load_unique : (p : ℤ) (q : ℕ) (r s : Result Register LoadRefusal) → Loads p q (load_number r) (load_register r) → Loads p q (load_number s) (load_register s) → r ≡ s
+load_unique p q (Ok x) (Ok y) h k = ap Ok (loads_same h k).1
+load_unique p q (Ok x) (Err Load.Outside) h k = absurd (omega (arith, (loads_same h k).0))
+load_unique p q (Ok x) (Err Load.Wide) h k = absurd (omega (arith, (loads_same h k).0))
+load_unique p q (Err Load.Outside) (Ok y) h k = absurd (omega (arith, (loads_same h k).0))
+load_unique p q (Err Load.Outside) (Err Load.Outside) h k = refl
+load_unique p q (Err Load.Outside) (Err Load.Wide) h k = absurd (omega (arith, (loads_same h k).0))
+load_unique p q (Err Load.Wide) (Ok y) h k = absurd (omega (arith, (loads_same h k).0))
+load_unique p q (Err Load.Wide) (Err Load.Outside) h k = absurd (omega (arith, (loads_same h k).0))
+load_unique p q (Err Load.Wide) (Err Load.Wide) h k = refl
 
 pub load_numerator : (p : ℤ) (q : ℕ) (g : Register) → Loads p q 0 g → num_of g ≡ p
 load_numerator p q g (loaded i l m) = rule_numerator p q g l
@@ -103,16 +112,16 @@ reads_same {g} {q'} {p'} (A.ReadsBack.outside p q v a i) (pair w b j) =
 reads_same (A.ReadsBack.outside p q v a i) (A.ReadsBack.invalid w) = absurd (w v)
 reads_same (A.ReadsBack.outside p q v a i) (A.ReadsBack.outside p' q' w b j) = (refl, refl, refl)
 
-pub read_back_unique : (g : Register) (r s : ReadBack) → ReadsBack g (read_number r) (read_p r) (read_q r) → ReadsBack g (read_number s) (read_p s) (read_q s) → r ≡ s
-read_back_unique g (Read.Pair x) (Read.Pair y) h k = let e = reads_same h k in λ i. Read.Pair (record { p = e.1 i; q = e.2 i })
-read_back_unique g (Read.Pair x) Read.Invalid h k = absurd (omega (arith, (reads_same h k).0))
-read_back_unique g (Read.Pair x) Read.Outside h k = absurd (omega (arith, (reads_same h k).0))
-read_back_unique g Read.Invalid (Read.Pair y) h k = absurd (omega (arith, (reads_same h k).0))
-read_back_unique g Read.Invalid Read.Invalid h k = refl
-read_back_unique g Read.Invalid Read.Outside h k = absurd (omega (arith, (reads_same h k).0))
-read_back_unique g Read.Outside (Read.Pair y) h k = absurd (omega (arith, (reads_same h k).0))
-read_back_unique g Read.Outside Read.Invalid h k = absurd (omega (arith, (reads_same h k).0))
-read_back_unique g Read.Outside Read.Outside h k = refl
+pub read_back_unique : (g : Register) (r s : Result Fraction ReadRefusal) → ReadsBack g (read_number r) (read_p r) (read_q r) → ReadsBack g (read_number s) (read_p s) (read_q s) → r ≡ s
+read_back_unique g (Ok x) (Ok y) h k = let e = reads_same h k in λ i. Ok (record { p = e.1 i; q = e.2 i })
+read_back_unique g (Ok x) (Err Read.Invalid) h k = absurd (omega (arith, (reads_same h k).0))
+read_back_unique g (Ok x) (Err Read.Outside) h k = absurd (omega (arith, (reads_same h k).0))
+read_back_unique g (Err Read.Invalid) (Ok y) h k = absurd (omega (arith, (reads_same h k).0))
+read_back_unique g (Err Read.Invalid) (Err Read.Invalid) h k = refl
+read_back_unique g (Err Read.Invalid) (Err Read.Outside) h k = absurd (omega (arith, (reads_same h k).0))
+read_back_unique g (Err Read.Outside) (Ok y) h k = absurd (omega (arith, (reads_same h k).0))
+read_back_unique g (Err Read.Outside) (Err Read.Invalid) h k = absurd (omega (arith, (reads_same h k).0))
+read_back_unique g (Err Read.Outside) (Err Read.Outside) h k = refl
 
 -- the fraction of a loaded register is the pair, so its lowest terms are the pair's
 lowest_loaded : {p p' : ℤ} {q q' : ℕ} (g : Register) → Load p q g → Lowest (num_of g) g.q p' q' → Lowest p q p' q'

@@ -6,3 +6,4 @@ pub mod States
 pub mod Loading
 pub mod Answers
 pub mod Memory
+pub mod Machine

@@ -8,7 +8,8 @@ use lib.Pow.{pow_mono}
 use lib.IntN.{ℤ, pos, neg_ℤ, nat_abs, ◌-ℤ◌, ◌*ℤ◌}
 use Rattle.integers.proofs.Parts.{nat_abs-+, nat_abs-*, nat_abs_neg}
 use Rattle.integers.proofs.Finite.{le_or_gt}
-use Rattle.integers.proofs.Log2.{log2_step, log2-below}
+use Rattle.integers.proofs.Log2.{log2_step}
+use Rattle.registers.proofs.Validity.{few}
 use Rattle.fractions.specs.Pairs.{Inside}
 use Rattle.registers.specs.Registers.{cell_count, tap, cell, sum_below, y_to, Load}
 use Rattle.registers.specs.declared.Register.{Register}
@@ -44,11 +45,11 @@ y_small q a r =
 pub load_narrow : (p : ℤ) (q : ℕ) (g : Register) → Inside p q → Load p q g → nat_abs g.memory ≤ 2 ^ 30
 load_narrow p q g i l =
     let r = cell_count q in
-    let few : r ≤ 30 = omega (arith, log2-below 31 (q + 1) (omega arith) (omega (arith, i.q_most))) in
+    let most = few q (omega (arith, i.q_most)) in
     let two : 2 ≤ 2 ^ r = pow_mono {i = 1} {j = r} (omega (arith, log2_step (q + 1) (omega (arith, i.some)))) in
     let y = y_to q g.cells r in
     let e : nat_abs g.memory * 2 ^ r ≡ nat_abs (y -ℤ p) = sym (nat_abs-* g.memory (pos (2 ^ r))) ∙ ap nat_abs l.memory in
     elim (le_or_gt (nat_abs g.memory) (2 ^ 30)) [
       | inl h ↦ h
-      | inr h ↦ absurd (omega (arith, i.p_most, nat_abs-+ y (neg_ℤ p), nat_abs_neg p, y_small q g.cells r, mul-le-mul_right (2 ^ r) few, mul-le-mul_right (2 ^ r) h))
+      | inr h ↦ absurd (omega (arith, i.p_most, nat_abs-+ y (neg_ℤ p), nat_abs_neg p, y_small q g.cells r, mul-le-mul_right (2 ^ r) most, mul-le-mul_right (2 ^ r) h))
     ]

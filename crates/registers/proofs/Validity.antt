@@ -1,25 +1,28 @@
 -- Valid registers: their ranges, so that nothing wraps, and that they stay valid.
 --
+--   few          how many cells there are at most
 --   facts        what a valid register's numbers are, as code needs them
 --   valid_next   a valid register stays valid after a step; valid_iter, after n
 --   iter_q       q stays
 use mathlib.Core.Path.{◌≡◌, refl, ap}
-use mathlib.Core.Bool.{Bool, true, false}
 use Prim.Native.Nat.{ℕ, zero, suc, ◌+◌, ◌-◌, ◌*◌, ◌/◌, ◌%◌, ◌^◌, ◌≤◌, ◌<◌}
 use native.Mathlib.Omega.{arith}
 use native.Mathlib.Nat.{mul-le-mul_right, not-suc-le-zero}
+use lib.Pow.{pow_mono}
 use lib.IntN.{ℤ, pos, nat_abs, ◌+ℤ◌, ◌*ℤ◌}
 use Rattle.integers.specs.Numbers.{odd_z, half_z}
 use Rattle.integers.proofs.Log2.{log2_step, log2-below}
 use Rattle.integers.proofs.Sizes.{odd_lt, half_size}
 use Rattle.integers.proofs.Parts.{nat_abs-+}
 use Rattle.bits.specs.Bits.{bit_of}
-use Rattle.fractions.specs.Pairs.{limit}
-use Rattle.integers.specs.Numbers.{Decides}
 use Rattle.taps.proofs.Adding.{taps_le}
 use Rattle.taps.specs.Sums.{taps_to}
 use Rattle.registers.specs.Registers.{cell_count, Valid, sum_below, tap_sum, sum_of, next_of, iter_of, tap, cell}
 use Rattle.registers.specs.declared.Register.{Register}
+
+-- a q below 2^30 has at most 30 cells
+pub few : (q : ℕ) → q < 2 ^ 30 → cell_count q ≤ 30
+few q h = omega (arith, log2-below 31 (q + 1) (omega arith) (omega arith))
 
 pub record Facts (g : Register) : Type 0 where
   pub odd : g.q % 2 ≡ 1
@@ -35,7 +38,7 @@ facts g v =
       odd = v.odd;
       small = omega (arith, v.q_most);
       some = omega (arith, v.some, log2_step (g.q + 1) (omega (arith, v.some)));
-      few = omega (arith, log2-below 31 (g.q + 1) (omega arith) (omega (arith, v.q_most)));
+      few = few g.q (omega (arith, v.q_most));
       cells = v.cells;
       memory = v.memory;
     }
@@ -89,9 +92,6 @@ unfolding iter_of
 iter_q zero g = refl
 iter_q (suc n) g = iter_q n g
 
--- ---- what code tests
--- the last test decides, once the others have passed
-pub valid_tested : (g : Register) (b : Bool) → g.q % 2 ≡ 1 → g.q ≤ limit → g.cells < 2 ^ cell_count g.q
-    → Decides (nat_abs g.memory ≤ 2 ^ 30) b → Decides (Valid g) b
-valid_tested g true o m c d = record { odd = o; some = omega arith; q_most = m; cells = c; memory = d }
-valid_tested g false o m c d = λ v. d v.memory
+-- the machine's 2^k
+pub shifted : (k : ℕ) → k < 32 → 1 * 2 ^ k % 2 ^ 32 ≡ 2 ^ k
+shifted k h = let p : 2 ^ k ≤ 2 ^ 31 = pow_mono {j = 31} (omega arith) in omega arith

@@ -4,31 +4,33 @@
 --   Steps g number bit register   a step: 0, or 5 and the register as it was given   ("Step and sheet: 5.")
 --   Loads p q number register     a load: 0, 4, or 8                                 ("Load: 4, 8.")
 --   ReadsBack g number p q        a pair read back: 0, 5, or 7                       ("Read back: 5, 7.")
--- The functions over them give the number and the values of every case of each answer.
-use Rattle.std.specs.Prelude.{ℕ, ◌^◌, ◌≤◌, ◌<◌, ℤ, pos, nat_abs}
+-- The functions over them give the number and the values of every case of each answer, and those of refusals the document's number of each.
+use Rattle.std.specs.Prelude.{ℕ, ◌^◌, ◌≤◌, ◌<◌, ℤ, pos, nat_abs, Result}
+use Rattle.refusals.specs.Refusals.{number_of, field_of}
 use Rattle.fractions.specs.Pairs.{Inside, Lowest}
 use Rattle.registers.specs.Registers.{Valid, emitted, next_of, num_of, Load}
 use Rattle.registers.specs.declared.Register.{Register}
+use Rattle.registers.specs.declared.Invalid.{Invalid}
 use Rattle.registers.specs.declared.Stepped.{Stepped}
-use Rattle.registers.specs.declared.Stepped.TheVariants as Step
-use Rattle.registers.specs.declared.Loaded.{Loaded}
-use Rattle.registers.specs.declared.Loaded.TheVariants as Load
-use Rattle.registers.specs.declared.ReadBack.{ReadBack}
-use Rattle.registers.specs.declared.ReadBack.TheVariants as Read
+use Rattle.registers.specs.declared.LoadRefusal.{LoadRefusal}
+use Rattle.registers.specs.declared.LoadRefusal.TheVariants as Load
+use Rattle.registers.specs.declared.ReadRefusal.{ReadRefusal}
+use Rattle.registers.specs.declared.ReadRefusal.TheVariants as Read
+use Rattle.fractions.specs.declared.Fraction.{Fraction}
 
 -- ---- step
 
+abbrev pub invalid_number : Invalid → ℕ
+invalid_number x = 5
+
 abbrev pub step_number : Stepped → ℕ
-step_number (Step.Next b g) = 0
-step_number (Step.Invalid g) = 5
+step_number s = number_of invalid_number s.bit
 
 abbrev pub step_bit : Stepped → ℕ
-step_bit (Step.Next b g) = b
-step_bit (Step.Invalid g) = 0
+step_bit s = field_of 0 (λ (b : ℕ). b) s.bit
 
 abbrev pub step_register : Stepped → Register
-step_register (Step.Next b g) = g
-step_register (Step.Invalid g) = g
+step_register s = s.register
 
 pub data Steps (g : Register) : ℕ → ℕ → Register → Type 0 where
   stepped : Valid g → Steps g 0 (emitted g) (next_of g)
@@ -40,15 +42,15 @@ pub data Steps (g : Register) : ℕ → ℕ → Register → Type 0 where
 abbrev pub none : Register
 none = record { q = 0; cells = 0; memory = pos 0 }
 
-abbrev pub load_number : Loaded → ℕ
-load_number (Load.Into g) = 0
-load_number Load.Outside = 4
-load_number Load.Wide = 8
+abbrev pub load_refusal_number : LoadRefusal → ℕ
+load_refusal_number Load.Outside = 4
+load_refusal_number Load.Wide = 8
 
-abbrev pub load_register : Loaded → Register
-load_register (Load.Into g) = g
-load_register Load.Outside = none
-load_register Load.Wide = none
+abbrev pub load_number : Result Register LoadRefusal → ℕ
+load_number r = number_of load_refusal_number r
+
+abbrev pub load_register : Result Register LoadRefusal → Register
+load_register r = field_of none (λ (g : Register). g) r
 
 pub data Loads (p : ℤ) (q : ℕ) : ℕ → Register → Type 0 where
   loaded : {g : Register} → Inside p q → Load p q g → nat_abs g.memory ≤ 2 ^ 30 → Loads p q 0 g
@@ -59,20 +61,18 @@ pub data Loads (p : ℤ) (q : ℕ) : ℕ → Register → Type 0 where
 
 -- ---- read back
 
-abbrev pub read_number : ReadBack → ℕ
-read_number (Read.Pair f) = 0
-read_number Read.Invalid = 5
-read_number Read.Outside = 7
+abbrev pub read_refusal_number : ReadRefusal → ℕ
+read_refusal_number Read.Invalid = 5
+read_refusal_number Read.Outside = 7
 
-abbrev pub read_p : ReadBack → ℤ
-read_p (Read.Pair f) = f.p
-read_p Read.Invalid = pos 0
-read_p Read.Outside = pos 0
+abbrev pub read_number : Result Fraction ReadRefusal → ℕ
+read_number r = number_of read_refusal_number r
 
-abbrev pub read_q : ReadBack → ℕ
-read_q (Read.Pair f) = f.q
-read_q Read.Invalid = 0
-read_q Read.Outside = 0
+abbrev pub read_p : Result Fraction ReadRefusal → ℤ
+read_p r = field_of (pos 0) (λ (f : Fraction). f.p) r
+
+abbrev pub read_q : Result Fraction ReadRefusal → ℕ
+read_q r = field_of 0 (λ (f : Fraction). f.q) r
 
 -- "p = y - m·2^r, then the pair in lowest terms, q positive; zero is (0, 1)"
 pub data ReadsBack (g : Register) : ℕ → ℤ → ℕ → Type 0 where

@@ -6,35 +6,35 @@ ghost use Rattle.records.specs.Block.{parse};
 ghost use Rattle.places.specs.Places.{is_store, bits_of};
 ghost use Rattle.room.specs.Rooms.{room_of};
 
-// Whether every record of a block has room, or where the first begins that has not.
-#[derive(Clone, Copy)]
-pub enum Room {
-    Fits,
-    Full(usize),
+use places::Place;
+use records::Records;
+
+// A record has no room: where it begins.
+#[derive(Clone, Copy, PartialEq, Eq)]
+pub struct Full {
+    pub at: usize,
 }
 
 // Judges the room of every record, before anything is written: with bits already appended, a refusal could not leave the store as it was. Not an entry point: its callers in other
 // crates show that the store keeps its rules.
-pub fn room_for(store: &[u8], block: &[u8]) -> Room
+pub fn room_for(store: &[u8], block: &[u8]) -> Result<(), Full>
     requires { is_store store.now ≡ true }
     ensures { result ≡ room_of (bits_of store.now) (parse block.now).records }
 {
-    let mut used = [0u32; records::METERS];
-    let mut at = 0;
-    loop {
-        match records::record_at(block, at) {
-            records::Head::Found(r) => {
-                let k = r.meter - 1;
-                let have = places::count_of(store, places::place_at(r.meter)) + used[k] as usize;
-                let count = r.count;
-                if places::MOST_BITS < have + count {
-                    return Room::Full(at);
-                }
-                used[k] += count as u32;
-                at = r.next;
-            }
-            records::Head::Refused(_) => return Room::Fits,
-            records::Head::End => return Room::Fits,
+    // by meter; 16 bits count a place's bits and a record's, and the array stands on the caller's stack
+    let mut used = [0u16; records::METERS];
+    for record in Records::of(block) {
+        let Ok(record) = record else {
+            break;
+        };
+        let used = &mut used[record.meter - 1];
+        *used += record.count as u16;
+        let place = Place::at(store, places::place_at(record.meter));
+        if places::MOST_BITS < place.count() + usize::from(*used) {
+            return Err(Full {
+                at: record.start - records::HEADER,
+            });
         }
     }
+    Ok(())
 }

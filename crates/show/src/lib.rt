@@ -1,9 +1,12 @@
-// Printing for programs: what they share. No contract can say what is written. What is computed for it has one: the text of a signed number is that of `text`, and
+// Printing for programs: what they share. No contract can say what is written. What is computed for it has one: the text of a signed number is the library's, and
 // `checksum` cites Checksums of specs/.
 #![tactic(auto)]
 
 ghost use Rattle.std.specs.Prelude.{◌≡◌};
 ghost use Rattle.show.specs.Checksums.{checksum_of};
+
+use itoa::{Buffer, Integer};
+use registers::Register;
 
 const STDOUT: i32 = 1;
 
@@ -13,25 +16,25 @@ pub fn word(bytes: &[u8]) {
     io::write_all(STDOUT, bytes);
 }
 
-pub fn number(n: u64) {
-    io::print_decimal(STDOUT, n);
+// A number of any type, in decimal.
+pub fn number<I: Integer>(n: I) {
+    word(Buffer::new().format(n).as_bytes());
 }
 
 // A space, then the number.
-pub fn field(n: u64) {
+pub fn field<I: Integer>(n: I) {
     word(b" ");
     number(n);
 }
 
-// The same for a number of either sign, as the libraries' p and memory are. It has at most ten digits.
-pub fn signed_field(x: i32) {
-    let mut digits = [0u8; 11];
-    let n = text::signed(&mut digits, 0, x);
-    word(b" ");
-    word(&digits[..n]);
+// A register as three fields: q, its cells and its memory.
+pub fn register(g: Register) {
+    field(g.q);
+    field(g.cells);
+    field(g.memory);
 }
 
-// A literal costs the program that has it a proof, so the marks that several print stand here.
+// The marks that several programs print.
 pub fn comma() {
     word(b",");
 }
@@ -45,13 +48,13 @@ pub fn checksum(bytes: &[u8]) -> usize
     ensures { result ≡ checksum_of bytes.now }
 {
     let mut sum = 1;
-    for i in 0..bytes.len() {
-        sum = (sum * 31 + bits::wide(bytes[i])) % MODULUS;
+    for &b in bytes {
+        sum = (sum * 31 + usize::from(b)) % MODULUS;
     }
     sum
 }
 
 // A space, then the checksum of the bytes.
 pub fn checksum_field(bytes: &[u8]) {
-    field(checksum(bytes) as u64);
+    field(checksum(bytes));
 }

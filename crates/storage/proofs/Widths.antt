@@ -1,52 +1,33 @@
 -- The least signed width that holds two numbers: a sign bit, and the bits of what the larger has past its sign.
 --
 --   between_of, of_between        n signed bits hold exactly what is below 2^(n-1) past its sign
---   size_below, size_above        the size of a number is what it has past its sign, and one more where it is negative
 --   width_least                   a sign bit and the bits of the larger of two numbers are the least width that holds both
---   width_first, width_second     the same where the first number is the larger past its sign, or the second
 --   length_most                   a number of 32 bits has a length of at most 32
 --   bits_of                       the width of the sheet is 1 + the bit length of the larger of what m and w - 1 have past their sign
 --   width_needed                  and the memory itself or w - 1 does not fit one bit less
 --   sheet_37, sheet_1             the width is 3 for -1/37, and 1 for the load of (2, 1)
-use mathlib.Core.Path.{◌≡◌, refl, subst}
-use mathlib.Core.Bool.{true, false}
+use mathlib.Core.Path.{◌≡◌}
 use mathlib.Core.Logic.{◌⊎◌, inl, inr}
 use Prim.Native.Nat.{ℕ, suc, ◌+◌, ◌-◌, ◌^◌, ◌≤◌, ◌<◌, max}
 use native.Mathlib.Omega.{arith}
+use Rattle.std.proofs.lemmas.Int.{ints}
 use lib.Count.{ones}
 use lib.Pow.{pow_pos, pow_mono}
-use lib.IntN.{ℤ, pos, negsuc, nat_abs}
-use lib.Dec.{T}
-use lib.Signed.{mag, lt_z}
-use borrow.Author.Tests.{ltb-true}
+use lib.IntN.{ℤ, pos, negsuc}
+use lib.Signed.{mag}
 use Rattle.integers.specs.Numbers.{Least}
 use Rattle.integers.proofs.Finite.{lt_or_ge, least_unique}
-use Rattle.integers.proofs.Parts.{le_of, le_to, parts--, up_neg, down_neg}
 use Rattle.registers.specs.declared.Register.{Register}
 use Rattle.storage.specs.Storage.{Between, Both, MemoryBits}
 
 -- ---- what n signed bits hold
 pub between_of : (n : ℕ) (z : ℤ) → mag z < 2 ^ (n - 1) → Between n z
-between_of n (pos a) h = record {
-  low = le_of _ _ (omega (arith, up_neg (pos (2 ^ (n - 1))), down_neg (pos (2 ^ (n - 1)))));
-  high = le_of _ _ (omega (arith, parts-- (pos (2 ^ (n - 1))) (pos 1)));
-}
-between_of n (negsuc a) h = record {
-  low = le_of _ _ (omega (arith, up_neg (pos (2 ^ (n - 1))), down_neg (pos (2 ^ (n - 1)))));
-  high = le_of _ _ (omega (arith, parts-- (pos (2 ^ (n - 1))) (pos 1)));
-}
+between_of n (pos a) h = record { low = omega (arith, ints); high = omega (arith, ints) }
+between_of n (negsuc a) h = record { low = omega (arith, ints); high = omega (arith, ints) }
 
 pub of_between : (n : ℕ) (z : ℤ) → Between n z → mag z < 2 ^ (n - 1)
-of_between n (pos a) b = omega (arith, pow_pos (n - 1), le_to b.high, parts-- (pos (2 ^ (n - 1))) (pos 1))
-of_between n (negsuc a) b = omega (arith, le_to b.low, up_neg (pos (2 ^ (n - 1))), down_neg (pos (2 ^ (n - 1))))
-
-pub size_below : (z : ℤ) → lt_z z (pos 0) ≡ true → nat_abs z ≡ mag z + 1
-size_below (pos n) e = absurd (let h : n < 0 = ltb-true n 0 e in omega arith)
-size_below (negsuc n) e = omega arith
-
-pub size_above : (z : ℤ) → lt_z z (pos 0) ≡ false → nat_abs z ≡ mag z
-size_above (pos n) e = refl
-size_above (negsuc n) e = absurd (subst T e tt)
+of_between n (pos a) b = omega (arith, ints, pow_pos (n - 1), b.high)
+of_between n (negsuc a) b = omega (arith, ints, b.low)
 
 -- ---- the least width
 -- h is the larger of what the two numbers have past their sign
@@ -63,12 +44,6 @@ width_least m k h b l l' g e = record {
   where
     one : b + 1 - 1 ≡ b
     one = omega arith
-
-pub width_first : (m : ℤ) (k s b : ℕ) → s ≡ mag m → k ≤ s → Least (λ j. s < 2 ^ j) b → Least (Both m k) (b + 1)
-width_first m k s b e l h = width_least m k s b (omega arith) l (λ P a c. omega arith) h
-
-pub width_second : (m : ℤ) (k s b : ℕ) → s ≡ mag m → s < k → Least (λ j. k < 2 ^ j) b → Least (Both m k) (b + 1)
-width_second m k s b e l h = width_least m k k b (omega arith) (omega arith) (λ P a c. c) h
 
 pub length_most : (n b : ℕ) → n < 2 ^ 32 → Least (λ j. n < 2 ^ j) b → b ≤ 32
 length_most n b h e = e.first 32 h
@@ -96,8 +71,8 @@ length_of h b l m = record {
 
 pub sheet_37 : MemoryBits (record { q = 37; cells = 19; memory = pos 0 }) 3
 unfolding ones
-sheet_37 = width_second (pos 0) 2 0 2 refl (omega arith) (length_of 2 1 (omega arith) (omega arith))
+sheet_37 = width_least (pos 0) 2 2 2 (omega arith) (omega arith) (λ P a b. b) (length_of 2 1 (omega arith) (omega arith))
 
 pub sheet_1 : MemoryBits (record { q = 1; cells = 0; memory = negsuc 0 }) 1
 unfolding ones
-sheet_1 = width_first (negsuc 0) 0 0 0 refl (omega arith) (record { holds = omega arith; first = λ k h. omega arith })
+sheet_1 = width_least (negsuc 0) 0 0 0 (omega arith) (omega arith) (λ P a b. b) (record { holds = omega arith; first = λ k h. omega arith })

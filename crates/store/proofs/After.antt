@@ -15,14 +15,11 @@ use mathlib.Core.List.{List, []}
 use native.Mathlib.Omega.{arith}
 use lib.ListN.{length, get_or}
 use Rattle.bits.specs.Bits.{Below}
-use Rattle.records.specs.Block.{meters, parse, form_of}
-use Rattle.records.specs.declared.Refusal.{Refusal}
-use Rattle.records.specs.declared.Form.{Form}
-use Rattle.records.specs.declared.Form.TheVariants as F
-use Rattle.room.specs.declared.Room.{Room}
-use Rattle.room.specs.declared.Room.TheVariants as R
-use Rattle.store.specs.declared.Answer.{Answer}
-use Rattle.store.specs.declared.Answer.TheVariants as A
+use Rattle.records.specs.Block.{meters, parse, Form, form_of}
+use Rattle.room.specs.Rooms.{Room}
+use Rattle.store.specs.Taking.{Answer}
+use Rattle.std.specs.Prelude.{Ok, Err}
+use Rattle.store.specs.declared.Refusal.TheVariants.{NotAStore, Malformed, NoRoom}
 use Rattle.places.specs.Places.{is_store, bits_of, encode_all}
 use Rattle.room.specs.Rooms.{room_of}
 use Rattle.store.specs.Taking.{append_all, take_of, number_of, place_of}
@@ -34,47 +31,38 @@ use Rattle.store.proofs.Kept.{filled_from}
 
 pub record Accepted (s b : List ℕ) : Type 0 where
   pub store : is_store s ≡ true
-  pub form : form_of b ≡ F.Sound
-  pub room : room_of (bits_of s) (parse b).records ≡ R.Fits
+  pub form : form_of b ≡ Ok tt
+  pub room : room_of (bits_of s) (parse b).records ≡ Ok tt
   pub after : (take_of s b).store ≡ encode_all (append_all (bits_of s) (parse b).records)
 
 -- every store and block: taken, or refused with no byte changed
 data Outcome (s b : List ℕ) : Type 0 where
-  accepted : (take_of s b).answer ≡ A.Taken → Accepted s b → Outcome s b
-  refused : ((take_of s b).answer ≡ A.Taken → ⊥) → (take_of s b).store ≡ s → Outcome s b
-
-no_store : A.NotAStore ≡ A.Taken → ⊥
-no_store e = let z : ◌≡◌ {A = ℕ} 0 1 = cc in omega arith
-
-no_form : (x : Refusal) → A.Malformed x ≡ A.Taken → ⊥
-no_form x e = let z : ◌≡◌ {A = ℕ} 0 1 = cc in omega arith
-
-full : (p : ℕ) → A.NoRoom p ≡ A.Taken → ⊥
-full p e = let z : ◌≡◌ {A = ℕ} 0 1 = cc in omega arith
+  accepted : (take_of s b).answer ≡ Ok tt → Accepted s b → Outcome s b
+  refused : ((take_of s b).answer ≡ Ok tt → ⊥) → (take_of s b).store ≡ s → Outcome s b
 
 module _ (s b : List ℕ) where
-  refusal : {x : Answer} → (x ≡ A.Taken → ⊥) → (x ≡ (take_of s b).answer) × (s ≡ (take_of s b).store) → Outcome s b
+  refusal : {x : Answer} → (x ≡ Ok tt → ⊥) → (x ≡ (take_of s b).answer) × (s ≡ (take_of s b).store) → Outcome s b
   refusal n h = refused (λ e. n (h.0 ∙ e)) (sym h.1)
 
   outcome_at : (t : Bool) (f : Form) (r : Room) → is_store s ≡ t → form_of b ≡ f → room_of (bits_of s) (parse b).records ≡ r → Outcome s b
-  outcome_at false f r e p q = refusal no_store (bad_store s b e)
-  outcome_at true (F.Refused x) r e p q = refusal (no_form x) (bad_form s b x e p)
-  outcome_at true F.Sound (R.Full n) e p q = refusal (full n) (no_room s b n e p q)
-  outcome_at true F.Sound R.Fits e p q =
+  outcome_at false f r e p q = refusal (λ k. cc) (bad_store s b e)
+  outcome_at true (Err x) r e p q = refusal (λ k. cc) (bad_form s b x e p)
+  outcome_at true (Ok u) (Err n) e p q = refusal (λ k. cc) (no_room s b n e p q)
+  outcome_at true (Ok u) (Ok v) e p q =
       let h = taken s b (encode_all (append_all (bits_of s) (parse b).records)) e p q refl in
       accepted (sym h.0) (record { store = e; form = p; room = q; after = sym h.1 })
 
   outcome : Outcome s b
   outcome = outcome_at (is_store s) (form_of b) (room_of (bits_of s) (parse b).records) refl refl refl
 
-  pub taken_parts : (take_of s b).answer ≡ A.Taken → Accepted s b
+  pub taken_parts : (take_of s b).answer ≡ Ok tt → Accepted s b
   taken_parts k = go outcome
     where
       go : Outcome s b → Accepted s b
       go (accepted e a) = a
       go (refused n e) = absurd (n k)
 
-  pub refused_kept : ((take_of s b).answer ≡ A.Taken → ⊥) → (take_of s b).store ≡ s
+  pub refused_kept : ((take_of s b).answer ≡ Ok tt → ⊥) → (take_of s b).store ≡ s
   refused_kept n = go outcome
     where
       go : Outcome s b → (take_of s b).store ≡ s
@@ -85,7 +73,7 @@ module _ (s b : List ℕ) where
   pub take_sound : Accepted s b → (length (append_all (bits_of s) (parse b).records) ≡ meters) × ((i : ℕ) → Sound (get_or (append_all (bits_of s) (parse b).records) i []))
   take_sound a = filled_from s b a.store a.room
 
-  pub take_lists : (take_of s b).answer ≡ A.Taken → bits_of (take_of s b).store ≡ append_all (bits_of s) (parse b).records
+  pub take_lists : (take_of s b).answer ≡ Ok tt → bits_of (take_of s b).store ≡ append_all (bits_of s) (parse b).records
   take_lists k =
       let a = taken_parts k in
       let f = take_sound a in
@@ -114,8 +102,8 @@ number_unique r x y p q = p ∙ sym q
 pub place_unique : (r : Answer) (x y : ℕ) → x ≡ place_of r → y ≡ place_of r → x ≡ y
 place_unique r x y p q = p ∙ sym q
 
-pub number_taken : (x : Answer) → number_of x ≡ 0 → x ≡ A.Taken
-number_taken A.Taken e = refl
-number_taken A.NotAStore e = absurd (omega arith)
-number_taken (A.Malformed x) e = absurd (number_some x e)
-number_taken (A.NoRoom p) e = absurd (omega arith)
+pub number_taken : (x : Answer) → number_of x ≡ 0 → x ≡ Ok tt
+number_taken (Ok u) e = refl
+number_taken (Err NotAStore) e = absurd (omega arith)
+number_taken (Err (Malformed x)) e = absurd (number_some x e)
+number_taken (Err (NoRoom p)) e = absurd (omega arith)

@@ -20,11 +20,10 @@ use lib.ListN.{length, get_or, length-append}
 use Rattle.bits.specs.Bits.{Below}
 use Rattle.records.specs.Block.{meters, parse, form_of}
 use Rattle.records.specs.Named.{named, own_bytes, brought, counts}
-use Rattle.records.specs.declared.Form.TheVariants as F
 use Rattle.records.proofs.Walk.{each_record}
 use Rattle.records.proofs.Blocks.{form_parts, parse_append, bits_own}
 use Rattle.records.proofs.Brought.{brought_join, brought_none, brought_count, counts_append}
-use Rattle.store.specs.declared.Answer.TheVariants as A
+use Rattle.std.specs.Prelude.{Ok}
 use Rattle.places.specs.Places.{place_at, count_of, encode, is_store, bits_of, fresh, burst}
 use Rattle.store.specs.Taking.{append_all, take_of}
 use Rattle.store.specs.Runs.{place_bytes, Runs, none, then, brought_by, named_by}
@@ -38,7 +37,7 @@ module _ (m : ℕ) (low : 0 < m) (high : m ≤ meters) where
   store_place s l e =
       ap (λ (x : List ℕ). place_bytes x m) (store_law s l e).same ∙ place_of (bits_of s) (m - 1) (omega (arith, length-bits_from meters s 0))
 
-  module _ (s b : List ℕ) (k : (take_of s b).answer ≡ A.Taken) where
+  module _ (s b : List ℕ) (k : (take_of s b).answer ≡ Ok tt) where
     lists_at : get_or (append_all (bits_of s) (parse b).records) (m - 1) [] ≡ burst s m ++ brought m (parse b).records
     lists_at = by_meter (bits_of s) (parse b).records m (each_record b) low (omega (arith, length-bits_from meters s 0))
 
@@ -61,7 +60,7 @@ module _ (m : ℕ) (low : 0 < m) (high : m ≤ meters) where
         take_bytes ∙ ap (λ (x : List ℕ). encode (burst s m ++ x)) (brought_none m (parse b).records e) ∙ ap encode (append-nil (burst s m))
         ∙ sym (store_place s l (taken_parts s b k).store)
 
-  module _ (s a b : List ℕ) (h : (take_of s a).answer ≡ A.Taken) (k : (take_of s b).answer ≡ A.Taken) where
+  module _ (s a b : List ℕ) (h : (take_of s a).answer ≡ Ok tt) (k : (take_of s b).answer ≡ Ok tt) where
     pub take_same : brought m (parse a).records ≡ brought m (parse b).records → place_bytes (take_of s a).store m ≡ place_bytes (take_of s b).store m
     take_same e = take_bytes s a h ∙ ap (λ (x : List ℕ). encode (burst s m ++ x)) e ∙ sym (take_bytes s b k)
 
@@ -70,14 +69,14 @@ module _ (m : ℕ) (low : 0 < m) (high : m ≤ meters) where
 
   -- u, u', v and v' do not name the meter
   pub take_surroundings : (s u r v u' v' : List ℕ)
-      → form_of u ≡ F.Sound → form_of r ≡ F.Sound → form_of v ≡ F.Sound → form_of u' ≡ F.Sound → form_of v' ≡ F.Sound
+      → form_of u ≡ Ok tt → form_of r ≡ Ok tt → form_of v ≡ Ok tt → form_of u' ≡ Ok tt → form_of v' ≡ Ok tt
       → named m (parse u).records ≡ [] → named m (parse v).records ≡ [] → named m (parse u').records ≡ [] → named m (parse v').records ≡ []
-      → (take_of s (u ++ (r ++ v))).answer ≡ A.Taken → (take_of s (u' ++ (r ++ v'))).answer ≡ A.Taken
+      → (take_of s (u ++ (r ++ v))).answer ≡ Ok tt → (take_of s (u' ++ (r ++ v'))).answer ≡ Ok tt
       → place_bytes (take_of s (u ++ (r ++ v))).store m ≡ place_bytes (take_of s (u' ++ (r ++ v'))).store m
   take_surroundings s u r v u' v' fu fr fv fu' fv' nu nv nu' nv' h k =
       take_same s (u ++ (r ++ v)) (u' ++ (r ++ v')) h k (only u r v fu fr fv nu nv ∙ sym (only u' r v' fu' fr fv' nu' nv'))
     where
-      only : (u r v : List ℕ) → form_of u ≡ F.Sound → form_of r ≡ F.Sound → form_of v ≡ F.Sound → named m (parse u).records ≡ [] → named m (parse v).records ≡ []
+      only : (u r v : List ℕ) → form_of u ≡ Ok tt → form_of r ≡ Ok tt → form_of v ≡ Ok tt → named m (parse u).records ≡ [] → named m (parse v).records ≡ []
           → brought m (parse (u ++ (r ++ v))).records ≡ brought m (parse r).records
       only u r v fu fr fv nu nv =
           let pu = (form_parts u fu).1 in

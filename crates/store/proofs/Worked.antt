@@ -8,9 +8,7 @@ use Rattle.bits.specs.Bits.{num, digits}
 use Rattle.records.specs.Block.{meters, judged, head_at, Parsed, parse_from, parse}
 use Rattle.records.specs.Named.{named, brought}
 use Rattle.records.proofs.Blocks.{form_whole}
-use Rattle.records.specs.declared.Form.TheVariants as F
-use Rattle.room.specs.declared.Room.TheVariants as R
-use Rattle.store.specs.declared.Answer.TheVariants as A
+use Rattle.std.specs.Prelude.{Ok}
 use Rattle.places.specs.Places.{burst, fresh}
 use Rattle.room.specs.Rooms.{room_of}
 use Rattle.store.specs.Taking.{take_of}
@@ -23,16 +21,16 @@ listing = 90 ∷ 195 ∷ 0 ∷ 3 ∷ 0 ∷ 13 ∷ 83 ∷ 4 ∷ 90 ∷ 195 ∷ 0 
 
 pub listing_parse : parse listing ≡ record {
   records = record { at = 0; start = 6; next = 8; meter = 3; bits = 1 ∷ 1 ∷ 0 ∷ 0 ∷ 1 ∷ 0 ∷ 1 ∷ 0 ∷ 0 ∷ 0 ∷ 1 ∷ 0 ∷ 0 ∷ [] } ∷ record { at = 8; start = 14; next = 15; meter = 7; bits = 1 ∷ 0 ∷ 1 ∷ [] } ∷ [];
-  form = F.Sound;
+  form = Ok tt;
 }
 unfolding parse parse_from head_at judged num digits
 listing_parse = refl
 
-listing_room : room_of (replicate meters []) (parse listing).records ≡ R.Fits
+listing_room : room_of (replicate meters []) (parse listing).records ≡ Ok tt
 unfolding room_of
 listing_room = ap (λ (p : Parsed). room_of (replicate meters []) p.records) listing_parse
 
-pub listing_taken : (take_of fresh listing).answer ≡ A.Taken
+pub listing_taken : (take_of fresh listing).answer ≡ Ok tt
 listing_taken =
     sym (taken fresh listing _ fresh-store (form_whole listing (omega arith) (ap (λ (p : Parsed). p.form) listing_parse))
     (ap (λ (l : List (List ℕ)). room_of l (parse listing).records) fresh_lists ∙ listing_room) refl).0

@@ -9,14 +9,14 @@ use Rattle.records.specs.Block.{Entry, parse}
 use Rattle.records.specs.Named.{named, brought}
 use Rattle.places.specs.Places.{place_size, place_at}
 use Rattle.store.specs.Taking.{take_of}
-use Rattle.store.specs.declared.Answer.TheVariants.{Taken}
+use Rattle.std.specs.Prelude.{Ok}
 
 abbrev pub place_bytes : List ℕ → ℕ → List ℕ
 place_bytes s meter = take place_size (drop (place_at meter) s)
 
 pub data Runs : List ℕ → List (List ℕ) → List ℕ → Type 0 where
   none : {s : List ℕ} → Runs s [] s
-  then : {s b t : List ℕ} {bs : List (List ℕ)} → (take_of s b).answer ≡ Taken → Runs (take_of s b).store bs t → Runs s (b ∷ bs) t
+  then : {s b t : List ℕ} {bs : List (List ℕ)} → (take_of s b).answer ≡ Ok tt → Runs (take_of s b).store bs t → Runs s (b ∷ bs) t
 
 unfoldable pub brought_by : ℕ → List (List ℕ) → List ℕ
 brought_by m [] = []

@@ -4,42 +4,51 @@
 // first, there are one of a store that lacks a byte and one of a store with a byte too many.
 #![tactic(auto)]
 
+const SHORT: usize = places::STORE_SIZE - 1;
+
+const LONG: usize = places::STORE_SIZE + 1;
+
+// The longest block of a case.
+const BLOCK: usize = records::BLOCK_BYTES + 2;
+
 // Each meter that has bits, and how many.
-fn print_counts(places: &[u8]) {
-    let mut k = 0;
-    while k < 32 {
-        let at = 514 * k;
-        let count = 256 * bits::byte_at(places, at) + bits::byte_at(places, at + 1);
+fn print_counts(bytes: &[u8]) {
+    for (place, meter) in bytes.chunks(places::PLACE_SIZE).zip(1..=records::METERS) {
+        let [high, low, ..] = place else {
+            continue;
+        };
+        let count = u16::from_be_bytes([*high, *low]);
         if count != 0 {
-            show::number((k + 1) as u64);
-            show::field(count as u64);
+            show::number(meter);
+            show::field(count);
             show::line_end();
         }
-        k += 1;
     }
 }
 
 // One case: its name, the number and the place of the answer, and the store afterwards, by a checksum of all its bytes and by its counts.
-fn take(places: &mut [u8]) {
-    cases::change(places);
+fn take(bytes: &mut [u8]) {
+    cases::change(bytes);
     cases::name();
-    let mut block = [0u8; 16386];
+    let mut block = [0u8; BLOCK];
     let n = cases::bytes(&mut block);
-    let answer = store::take(places, &block[..n]);
-    show::field(store::number(answer) as u64);
-    show::field(store::place(answer) as u64);
-    show::checksum_field(places);
+    let answer = store::take(bytes, &block[..n]);
+    let place = match answer {
+        Ok(()) => 0,
+        Err(refusal) => refusal.place(),
+    };
+    show::field(refusals::number_of(answer));
+    show::field(place);
+    show::checksum_field(bytes);
     show::line_end();
-    print_counts(places);
+    print_counts(bytes);
 }
 
 fn main() {
-    let mut places = [0u8; 16448];
+    let mut bytes = [0u8; places::STORE_SIZE];
     for _ in 0..cases::word() {
-        take(&mut places);
+        take(&mut bytes);
     }
-    let mut short = [0u8; 16447];
-    take(&mut short);
-    let mut long = [0u8; 16449];
-    take(&mut long);
+    take(&mut [0; SHORT]);
+    take(&mut [0; LONG]);
 }

@@ -1,10 +1,18 @@
 // The digits of an expansion, one by one, and what is left of the numerator.
-ghost use Rattle.std.specs.Prelude.{◌≡◌, ◌+◌, ◌*◌, ◌^◌, ◌≤◌, ◌<◌, nat_abs};
+ghost use Rattle.std.specs.Prelude.{◌≡◌, ◌^◌, ◌≤◌, ◌<◌, nat_abs};
 ghost use Rattle.integers.specs.Numbers.{odd_z};
 ghost use Rattle.fractions.specs.Expansion.{next_num, iter_num, digits_to};
 
-use super::sums::power;
-use integers::signed::{half, odd};
+use integers::signed::half;
+
+// An expansion p/q, by what is still to come of it.
+#[derive(Clone, Copy)]
+pub struct Expansion {
+    pub p: i64,
+    pub q: u32,
+    pub ghost p_small: { nat_abs p ≤ 2 ^ 61 },
+    pub ghost q_small: { q < 2 ^ 30 },
+}
 
 // The digits taken off so far, first digit lowest, and the numerator after them.
 #[derive(Clone, Copy)]
@@ -13,37 +21,28 @@ pub struct Digits {
     pub rest: i64,
 }
 
-// The numerator after its first digit: the digit is its parity, and what is left is halved.
-fn next(p: i64, q: u32) -> i64
-    requires { (nat_abs p ≤ 2 ^ 61) × (q < 2 ^ 30) }
-    ensures { result ≡ next_num q p }
-{
-    let digit = odd(p);
-    half(p - ((digit * q) as i64))
-}
-
-// One digit more, the one of weight 2^i.
-fn one_more(at: Digits, q: u32, i: u32) -> Digits
-    requires { (nat_abs at.rest ≤ 2 ^ 61) × (q < 2 ^ 30) × (i < 30) × (at.bits < 2 ^ i) }
-    ensures { (result.bits ≡ at.bits + odd_z at.rest * 2 ^ i) × (result.rest ≡ next_num q at.rest) }
-{
-    let p = at.rest;
-    Digits {
-        bits: at.bits + odd(p) * power(i),
-        rest: next(p, q),
+impl Expansion {
+    // Takes the next digit off: 1 where the numerator is odd, and then q comes off it before it is halved. By a branch: a product of digit and q is slower.
+    fn next(&mut self) -> u32
+        ensures digit { result ≡ odd_z self.old.p }
+        ensures p { self.new.p ≡ next_num self.old.q self.old.p }
+        ensures q { self.new.q ≡ self.old.q }
+    {
+        let odd = self.p & 1 == 1;
+        let taken = if odd { self.q } else { 0 };
+        self.p = half(self.p - i64::from(taken));
+        u32::from(odd)
     }
-}
 
-// The first n digits of p/q, and the numerator after them.
-pub fn first_digits(p: i64, q: u32, n: u32) -> Digits
-    requires { (nat_abs p ≤ 2 ^ 61) × (q < 2 ^ 30) × (n ≤ 30) }
-    ensures { (result.bits ≡ digits_to q n p) × (result.rest ≡ iter_num q n p) }
-{
-    let mut at = Digits { bits: 0, rest: p };
-    let mut i: u32 = 0;
-    while i < n {
-        at = one_more(at, q, i);
-        i += 1;
+    // The first n digits, and the numerator after them.
+    pub fn first_digits(mut self, n: u32) -> Digits
+        requires { n ≤ 30 }
+        ensures { (result.bits ≡ digits_to self.q n self.p) × (result.rest ≡ iter_num self.q n self.p) }
+    {
+        let mut bits = 0;
+        for i in 0..n {
+            bits += self.next() << i;
+        }
+        Digits { bits, rest: self.p }
     }
-    at
 }

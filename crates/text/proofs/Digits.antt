@@ -1,33 +1,28 @@
--- Numbers as text: the digits that `io` writes are the number's text, its value is the number, and it has no more digits than its size asks.
+-- Numbers as text: what the library writes is the number's text, and its value is the number.
 --
 --   Spelt, spelt                     the digits of a number from the last to the first
---   digits_are                       `io` writes a number's text
+--   decimal_is, signed_is, signed_32_is   the library writes a number's text
 --   value_decimal                    a text's value is the number, so decimal_unique and signed_unique: two numbers with one text are one number
---   length_decimal, length_signed    how long a text can be
 --   Above, decimal_above, signed_above, field_unique   a field ends at its separator, since every byte of it is above that
---   signed_below, signed_not_below   the text of a signed number, by its sign
 use mathlib.Core.Path.{◌≡◌, refl, sym, ap, ◌∙◌, subst}
-use mathlib.Core.Bool.{Bool, true, false, cond}
 use mathlib.Core.List.{List, [], ◌∷◌, ◌++◌}
 use Prim.Native.Nat.{ℕ, zero, suc, ◌+◌, ◌-◌, ◌*◌, ◌/◌, ◌%◌, ◌^◌, ◌≤◌, ◌<◌}
 use native.Mathlib.Omega.{arith}
-use native.Mathlib.Nat.{pow-suc, suc_inj}
+use native.Mathlib.Nat.{suc_inj}
 use lib.Dec.{lit<}
 use lib.IntN.{ℤ, pos, negsuc, nat_abs}
-use lib.Signed.{lt_z}
-use lib.ListN.{length, length-append}
 use mathlib.Core.Logic.{⊎_elim}
-use borrow.Author.Tests.{lt-ltb, le-ltb, ltb-true}
+use borrow.Author.Tests.{lt-ltb, le-ltb}
 use Rattle.integers.proofs.Finite.{lt_or_ge}
-use Rattle.io.specs.Digits.{hex_digit_ascii, last_digits, IsDigitCount}
+use mir.Syntax.{w32}
+use mir.Val.{SFits, to_z, of_z}
+use mir.ValLaws.{to_z-of_z}
+use Rattle.std.specs.Fmt.{decimal, signed_decimal}
+use Rattle.std.proofs.lemmas.Fmt.{decimal_digit, decimal_step}
 use Rattle.text.specs.Text.{digit_of, decimal_in, decimal_of, signed_of, minus_sign}
 use Rattle.text.specs.Numerals.{value_from, value_of}
 
 -- ---- one digit, and more than one
-
-pow10_pos : (k : ℕ) → 0 < 10 ^ k
-pow10_pos zero = omega arith
-pow10_pos (suc k) = omega (arith, pow-suc 10 k, pow10_pos k)
 
 one : (turns n : ℕ) → n < 10 → decimal_in turns n ≡ digit_of n ∷ []
 unfolding decimal_in
@@ -37,9 +32,6 @@ one (suc turns) n h = simp (lt-ltb n 10 h)
 more : (turns n : ℕ) → 10 ≤ n → decimal_in (suc turns) n ≡ decimal_in turns (n / 10) ++ (digit_of (n % 10) ∷ [])
 unfolding decimal_in
 more turns n h = simp (le-ltb n 10 h)
-
-glyph_digit : (d : ℕ) → d < 10 → hex_digit_ascii d ≡ digit_of d
-glyph_digit d h = simp (lt-ltb d 10 h)
 
 -- the digits of a text from the last to the first: what every law below goes by
 pub data Spelt : ℕ → List ℕ → Type 0 where
@@ -57,32 +49,30 @@ pub spelt : (n : ℕ) → Spelt n (decimal_of n)
 unfolding decimal_of
 spelt n = spelt_in n n (omega arith)
 
--- ---- the fewest digits are the text
+-- ---- the library's text of a number
 
-fewer : (n k : ℕ) → IsDigitCount 10 1 n (suc (suc k)) → IsDigitCount 10 1 (n / 10) (suc k)
-fewer n k f =
-    let up : n < 10 ^ suc k * 10 = subst (λ (m : ℕ). n < m) (pow-suc 10 (suc k)) f.1 in
-    let low : 10 ^ suc k ≤ n = subst (λ (m : ℕ). 10 ^ m ≤ n) (let e : suc (suc k) - 1 ≡ suc k = omega arith in e) (f.2 (omega arith)) in
-    (omega arith, omega arith, λ h. subst (λ (m : ℕ). 10 ^ m ≤ n / 10) (let e : k ≡ suc k - 1 = omega arith in e) (omega (arith, low, pow-suc 10 k)))
+decimal-spelt : {n : ℕ} {s : List ℕ} → Spelt n s → n < 2 ^ 64 → decimal n ≡ s
+decimal-spelt (single {n} h) b = decimal_digit n h
+decimal-spelt (longer {n} {s} h t) b = decimal_step n h b ∙ ap (λ (x : List ℕ). x ++ (digit_of (n % 10) ∷ [])) (decimal-spelt t (omega arith))
 
-digits_are_in : (turns k n : ℕ) → n ≤ turns → IsDigitCount 10 1 n (suc k) → last_digits 10 (suc k) n ≡ decimal_in turns n
-digits_are_in turns zero n h f =
-    let s : n < 10 = f.1 in
-    ap (λ (x : ℕ). x ∷ []) (glyph_digit (n % 10) (omega arith) ∙ ap digit_of (let e : n % 10 ≡ n = omega arith in e)) ∙ sym (one turns n s)
-digits_are_in zero (suc k) n h f =
-    let low : 10 ^ (suc (suc k) - 1) ≤ n = f.2 (omega arith) in
-    absurd (omega (arith, pow10_pos (suc (suc k) - 1)))
-digits_are_in (suc turns) (suc k) n h f =
-    let low : 10 ^ suc k ≤ n = subst (λ (m : ℕ). 10 ^ m ≤ n) (let e : suc (suc k) - 1 ≡ suc k = omega arith in e) (f.2 (omega arith)) in
-    let ten : 10 ≤ n = omega (arith, pow-suc 10 k, pow10_pos k) in
-    ap (λ (xs : List ℕ). xs ++ (hex_digit_ascii (n % 10) ∷ [])) (digits_are_in turns k (n / 10) (omega arith) (fewer n k f))
-    ∙ ap (λ (x : ℕ). decimal_in turns (n / 10) ++ (x ∷ [])) (glyph_digit (n % 10) (omega arith))
-    ∙ sym (more turns n ten)
+pub decimal_is : (n : ℕ) → n < 2 ^ 64 → decimal n ≡ decimal_of n
+decimal_is n b = decimal-spelt (spelt n) b
 
-pub digits_are : (k n : ℕ) → IsDigitCount 10 1 n k → last_digits 10 k n ≡ decimal_of n
-unfolding decimal_of
-digits_are zero n f = absurd (let h : 1 ≤ 0 = f.0 in omega arith)
-digits_are (suc k) n f = digits_are_in n k n (omega arith) f
+pub signed_is : (z : ℤ) → nat_abs z < 2 ^ 64 → signed_decimal z ≡ signed_of z
+signed_is (pos n) b = decimal_is n b
+signed_is (negsuc n) b = ap (λ (s : List ℕ). minus_sign ∷ s) (decimal_is (suc n) b)
+
+-- .. of a number in 32 bits, as the library reads it back from them
+pub signed_32_is : (z : ℤ) → SFits w32 z → signed_decimal (to_z w32 (of_z w32 z)) ≡ signed_of z
+signed_32_is z f = ap signed_decimal (to_z-of_z w32 z f) ∙ signed_is z (size z f)
+  where
+    size : (z : ℤ) → SFits w32 z → nat_abs z < 2 ^ 64
+    size (pos n) f = omega (arith, f.sfits)
+    size (negsuc n) f = omega (arith, f.sfits)
+
+pub fits_32 : (z : ℤ) → nat_abs z < 2 ^ 31 → SFits w32 z
+fits_32 (pos n) h = record { sfits = h }
+fits_32 (negsuc n) h = record { sfits = omega arith }
 
 -- ---- what a text says
 
@@ -101,22 +91,6 @@ value_decimal n = value-spelt (spelt n)
 
 pub decimal_unique : (m n : ℕ) → decimal_of m ≡ decimal_of n → m ≡ n
 decimal_unique m n e = sym (value_decimal m) ∙ ap (value_from 0) e ∙ value_decimal n
-
--- ---- how long a text is
-
-length-spelt : {n : ℕ} {s : List ℕ} (k : ℕ) → Spelt n s → n < 10 ^ suc k → length s ≤ suc k
-length-spelt k (single h) b = omega arith
-length-spelt zero (longer h t) b = absurd (omega arith)
-length-spelt (suc k) (longer {n} {s} h t) b =
-    let up : n < 10 ^ suc k * 10 = subst (λ (m : ℕ). n < m) (pow-suc 10 (suc k)) b in
-    rw length-append (omega (arith, length-spelt k t (omega arith)))
-
-pub length_decimal : (k n : ℕ) → n < 10 ^ suc k → length (decimal_of n) ≤ suc k
-length_decimal k n = length-spelt k (spelt n)
-
-pub length_signed : (k : ℕ) (z : ℤ) → nat_abs z < 10 ^ suc k → length (signed_of z) ≤ suc (suc k)
-length_signed k (pos n) h = omega (arith, length_decimal k n h)
-length_signed k (negsuc n) h = omega (arith, length_decimal k (suc n) h)
 
 -- ---- its bytes
 
@@ -155,16 +129,6 @@ signed_unique (negsuc m) (negsuc n) e = ap negsuc (suc_inj (decimal_unique (suc 
   where
     cons_inj : {x y : ℕ} {s t : List ℕ} → x ∷ s ≡ y ∷ t → s ≡ t
     cons_inj e = cc
-
--- ---- the sign
-
-pub signed_below : (z : ℤ) → lt_z z (pos 0) ≡ true → signed_of z ≡ minus_sign ∷ decimal_of (nat_abs z)
-signed_below (pos n) e = absurd (let h : n < 0 = ltb-true n 0 e in omega arith)
-signed_below (negsuc n) e = refl
-
-pub signed_not_below : (z : ℤ) → lt_z z (pos 0) ≡ false → signed_of z ≡ decimal_of (nat_abs z)
-signed_not_below (pos n) e = refl
-signed_not_below (negsuc n) e = absurd (let h : ◌≡◌ {A = ℕ} 0 1 = ap (λ (b : Bool). cond b 1 0) (sym e) in omega arith)
 
 -- ---- texts with a separator behind them
 

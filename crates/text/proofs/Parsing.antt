@@ -1,6 +1,7 @@
--- Numbers read digit by digit.
+-- Numbers read from text.
 --
---   Parsing        where the reading stands: the first i bytes are digits, and n is their number
+--   own            the words of Numerals are those of the library's `parse`
+--   plus_no, no_text, parsed_is   the answer: a plus is in front, the bytes are no text, or what the library's `parse` says
 --   says_unique    any two answers for the same bytes are the same
 --   says_exists    every text has an answer
 --   decimal_says   a number below 2^32 is read from its own text
@@ -9,77 +10,60 @@ use mathlib.Core.List.{List, [], ◌∷◌, ◌++◌}
 use Prim.Native.Nat.{ℕ, suc, ◌+◌, ◌-◌, ◌*◌, ◌%◌, ◌^◌, ◌≤◌, ◌<◌}
 use native.Mathlib.Omega.{arith}
 use native.Mathlib.Decide.{dec_le}
-use native.Mathlib.Numerals.{add-one}
-use lib.ListN.{length, get_or, drop, drop_of_length-le, length-append}
-use lib.Seq.{drop-cons}
-use Rattle.text.specs.declared.numerals.Number.{Number}
-use Rattle.text.specs.declared.numerals.Number.TheVariants as N
+use lib.ListN.{length, get_or, drop, length-append}
+use Rattle.std.specs.Prelude.{Option, Some, None, Result, Ok, Err, IsUtf8, nat_eq}
+use Rattle.std.specs.List.{starts_with}
+use Rattle.std.specs.Result.{OkIff, result_ok}
+use Rattle.std.proofs.lemmas.Slice.Eq.{starts_is}
+use Rattle.std.proofs.Common.{Bool, true, false, true≢false}
+use Rattle.std.proofs.lemmas.Bool.Decides.{Decides-eqb}
+use Rattle.std.specs.Str.Parse.{ParsesUnsigned}
+use Rattle.std.proofs.lemmas.Str.{IsUtf8-from_ascii}
+use Rattle.std.proofs.lemmas.Str.Parse.{IsDigitsTest, FoldsDigits, IsNumeralModel, numerals_by_fold, not_in_digits, parse_plain}
+use Rattle.std.proofs.lemmas.Fmt.{IsAscii-from_digits}
 use Rattle.text.specs.Text.{digit_of, decimal_of}
 use Rattle.text.specs.Numerals.{Digits, value_from, value_of, Says, number, none}
 use Rattle.text.proofs.Digits.{Spelt, single, longer, spelt, value_decimal}
 
--- more digits never make a number smaller
-value_grows : (a : ℕ) (s : List ℕ) → a ≤ value_from a s
+digits_test : IsDigitsTest Digits
+unfolding Digits
+digits_test = record { empty = tt; parts = λ c cs d. (d.0, d.1); more = λ c cs k d. (k, d) }
+
+value_folds : FoldsDigits value_from
 unfolding value_from
-value_grows a [] = omega arith
-value_grows a (x ∷ xs) = omega (arith, value_grows (10 * a + (x - digit_of 0)) xs)
+value_folds =
+    record {
+      empty = λ n. refl;
+      more = λ n c cs k. ap (λ (m : ℕ). value_from m cs) (let e : 10 * n + (c - digit_of 0) ≡ n * 10 + (c - 48) = omega arith in e);
+    }
 
-pub record Parsing (s : List ℕ) (n i : ℕ) : Type 0 where
-  pub within : i ≤ length s
-  pub below : n < 4294967296
-  pub value : value_from n (drop i s) ≡ value_of s
-  pub on : Digits s → Digits (drop i s)
-  pub back : Digits (drop i s) → Digits s
+-- the words of Numerals are the library's, of decimal digits
+pub own : IsNumeralModel Digits value_of
+own = numerals_by_fold Digits digits_test value_from value_folds
 
-pub parsing_none : (s : List ℕ) → Parsing s 0 0
-parsing_none s = record { within = omega arith; below = omega arith; value = refl; on = λ d. d; back = λ d. d }
+-- a plus in front, as `starts_with` tells it
+plus_first : (s : List ℕ) {b : Bool} → b ≡ starts_with nat_eq s (43 ∷ []) → (b ≡ true → get_or s 0 0 ≡ 43) × (get_or s 0 0 ≡ 43 → b ≡ true)
+plus_first s {b} e = let k = starts_is Decides-eqb s (43 ∷ []) b e in (λ t. ap (λ (x : List ℕ). get_or x 0 0) (k.0 t), λ h. k.1 (drop 1 s) (first s h))
+  where
+    first : (s : List ℕ) → get_or s 0 0 ≡ 43 → s ≡ 43 ∷ drop 1 s
+    first [] h = absurd (let z : 0 ≡ 43 = h in omega arith)
+    first (x ∷ xs) h = ap (λ (y : ℕ). y ∷ xs) h
 
-pub empty_no : (s : List ℕ) → length s ≡ 0 → Says s N.No
-empty_no s e = none (λ w. omega (arith, w.some))
+pub plus_no : {s : List ℕ} {b : Bool} → b ≡ starts_with nat_eq s (43 ∷ []) → b ≡ true → Says s None
+plus_no {s} e t = none (λ w. not_in_digits own s 43 w.digits (λ k. omega (arith, k.0)) 0 w.some ((plus_first s e).0 t))
 
-module _ {s : List ℕ} {n i : ℕ} (h : Parsing s n i) where
-  module _ (l : i < length s) where
-    first_is : drop i s ≡ get_or s i 0 ∷ drop (suc i) s
-    first_is = drop-cons s i 0 l
+pub no_text : {s : List ℕ} → (IsUtf8 s → ⊥) → Says s None
+no_text {s} n = none (λ w. n (IsUtf8-from_ascii s (IsAscii-from_digits s (own.to s w.digits))))
 
-    first_digit : Digits s → (digit_of 0 ≤ get_or s i 0) × (get_or s i 0 ≤ digit_of 9)
-    unfolding Digits
-    first_digit d = (subst Digits first_is (h.on d)).0
-
-    value_next : value_from (10 * n + (get_or s i 0 - digit_of 0)) (drop (suc i) s) ≡ value_of s
-    unfolding value_from
-    value_next = sym (ap (value_from n) first_is) ∙ h.value
-
-    pub below_no : get_or s i 0 < digit_of 0 → Says s N.No
-    below_no b = none (λ w. omega (arith, (first_digit w.digits).0))
-
-    pub above_no : digit_of 9 < get_or s i 0 → Says s N.No
-    above_no b = none (λ w. omega (arith, (first_digit w.digits).1))
-
-    pub large_no : {m : ℕ} → m ≡ 10 * n + (get_or s i 0 - digit_of 0) → 4294967295 < m → Says s N.No
-    large_no e b = none (λ w. omega (arith, w.small, value_next, value_grows (10 * n + (get_or s i 0 - digit_of 0)) (drop (suc i) s)))
-
-    pub parsing_more : {m : ℕ} → m ≡ 10 * n + (get_or s i 0 - digit_of 0) → m ≤ 4294967295 → digit_of 0 ≤ get_or s i 0 → get_or s i 0 ≤ digit_of 9 → Parsing s m (i + 1)
-    unfolding Digits
-    parsing_more {m} e f low high =
-        subst (Parsing s m) (sym (add-one i))
-        (record {
-          within = omega arith;
-          below = omega arith;
-          value = ap (λ (k : ℕ). value_from k (drop (suc i) s)) e ∙ value_next;
-          on = λ d. (subst Digits first_is (h.on d)).1;
-          back = λ d. h.back (subst Digits (sym first_is) ((low, high), d));
-        })
-
-  pub parsing_done : 0 < length s → length s ≤ i → Says s (N.Is n)
-  unfolding Digits value_from
-  parsing_done some l =
-      let e : drop i s ≡ [] = drop_of_length-le s {i = i} l in
-      let v : n ≡ value_of s = sym (ap (value_from n) e) ∙ h.value in
-      subst (λ (k : ℕ). Says s (N.Is k)) (sym v) (number (record { some = some; digits = h.back (subst Digits (sym e) tt); small = omega (arith, h.below) }))
+pub parsed_is : {E : Type 0} {s t : List ℕ} {b : Bool} (r : Result ℕ E) → b ≡ starts_with nat_eq s (43 ∷ []) → b ≡ false → t ≡ s → ParsesUnsigned 32 10 t r → Says s (result_ok r)
+parsed_is {s = s} {b = b} r e f same h = go r (parse_plain own 32 s r (subst (λ (x : List ℕ). ParsesUnsigned 32 10 x r) same h) (λ p. true≢false (sym ((plus_first s e).1 p) ∙ f)))
+  where
+    go : {E : Type 0} (r : Result ℕ E) → OkIff r (Digits s × (0 < length s) × (value_of s < 2 ^ 32)) (value_of s) → Says s (result_ok r)
+    go (Ok n) k = subst (λ (m : ℕ). Says s (Some m)) (sym k.1) (number (record { some = k.0.1; digits = k.0.0; small = k.0.2 }))
+    go (Err d) k = none (λ w. k (w.digits, w.some, w.small))
 
 -- ---- one answer, and always one
-pub says_unique : {s : List ℕ} {x y : Number} → Says s x → Says s y → x ≡ y
+pub says_unique : {s : List ℕ} {x y : Option ℕ} → Says s x → Says s y → x ≡ y
 says_unique (number w) (number w') = refl
 says_unique (number w) (none n) = absurd (n w)
 says_unique (none n) (number w) = absurd (n w)
@@ -96,14 +80,14 @@ digits_dec (x ∷ xs) = go (dec_le (digit_of 0) x) (dec_le x (digit_of 9)) (digi
     go (yes a) (no b) d = no (λ h. b h.0.1)
     go (no a) b d = no (λ h. a h.0.0)
 
-pub says_exists : (s : List ℕ) → (x : Number) × Says s x
+pub says_exists : (s : List ℕ) → (x : Option ℕ) × Says s x
 says_exists s = go (dec_le 1 (length s)) (digits_dec s) (dec_le (suc (value_of s)) (2 ^ 32))
   where
-    go : Dec (1 ≤ length s) → Dec (Digits s) → Dec (suc (value_of s) ≤ 2 ^ 32) → (x : Number) × Says s x
-    go (yes a) (yes d) (yes b) = (N.Is (value_of s), number (record { some = a; digits = d; small = b }))
-    go (yes a) (yes d) (no b) = (N.No, none (λ w. b w.small))
-    go (yes a) (no d) b = (N.No, none (λ w. d w.digits))
-    go (no a) d b = (N.No, none (λ w. a w.some))
+    go : Dec (1 ≤ length s) → Dec (Digits s) → Dec (suc (value_of s) ≤ 2 ^ 32) → (x : Option ℕ) × Says s x
+    go (yes a) (yes d) (yes b) = (Some (value_of s), number (record { some = a; digits = d; small = b }))
+    go (yes a) (yes d) (no b) = (None, none (λ w. b w.small))
+    go (yes a) (no d) b = (None, none (λ w. d w.digits))
+    go (no a) d b = (None, none (λ w. a w.some))
 
 -- ---- a number's own text
 digits_append : (s t : List ℕ) → Digits s → Digits t → Digits (s ++ t)
@@ -116,8 +100,8 @@ unfolding Digits
 digits-spelt (single h) = (omega arith, ((omega arith, omega arith), tt))
 digits-spelt (longer {n} {s} h t) = (rw length-append (omega arith), digits_append s (digit_of (n % 10) ∷ []) (digits-spelt t).1 ((omega arith, omega arith), tt))
 
-pub decimal_says : (n : ℕ) → n < 2 ^ 32 → Says (decimal_of n) (N.Is n)
+pub decimal_says : (n : ℕ) → n < 2 ^ 32 → Says (decimal_of n) (Some n)
 decimal_says n h =
     let d = digits-spelt (spelt n) in
     let e = value_decimal n in
-    subst (λ (k : ℕ). Says (decimal_of n) (N.Is k)) e (number (record { some = d.0; digits = d.1; small = omega arith }))
+    subst (λ (k : ℕ). Says (decimal_of n) (Some k)) e (number (record { some = d.0; digits = d.1; small = omega arith }))

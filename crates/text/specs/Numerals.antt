@@ -6,10 +6,8 @@
 --   Numeral s       one digit or more and nothing else, and the number is below 2^32
 --   Says s x        the answer for the bytes s: their number, or that they are none
 -- The laws `says_unique` and `says_exists` say that every text has one answer, `decimal_says` that a number is read from its own text.
-use Rattle.std.specs.Prelude.{List, [], ◌∷◌, ℕ, ◌+◌, ◌-◌, ◌*◌, ◌^◌, ◌≤◌, ◌<◌, length}
+use Rattle.std.specs.Prelude.{List, [], ◌∷◌, ℕ, ◌+◌, ◌-◌, ◌*◌, ◌^◌, ◌≤◌, ◌<◌, length, Option, Some, None}
 use Rattle.text.specs.Text.{digit_of}
-use Rattle.text.specs.declared.numerals.Number.{Number}
-use Rattle.text.specs.declared.numerals.Number.TheVariants as N
 
 unfoldable pub Digits : List ℕ → Type 0
 Digits [] = Unit {0}
@@ -27,6 +25,6 @@ pub record Numeral (s : List ℕ) : Type 0 where
   pub digits : Digits s
   pub small : value_of s < 2 ^ 32
 
-pub data Says (s : List ℕ) : Number → Type 0 where
-  number : Numeral s → Says s (N.Is (value_of s))
-  none : (Numeral s → ⊥) → Says s N.No
+pub data Says (s : List ℕ) : Option ℕ → Type 0 where
+  number : Numeral s → Says s (Some (value_of s))
+  none : (Numeral s → ⊥) → Says s None

@@ -2,6 +2,7 @@
 --
 --   decimal_of n               n in decimal digits, the most significant first; "0" for 0, and no other number begins with a 0
 --   signed_of z                the same, with "-" in front of a negative number
+-- and a text that is put on bytes at a position:
 --   written old at text       the bytes `old` with `text` in them from `at` on, and every other byte as it was
 --   Wrote old at text new r   the bytes `new` are those, and r is the position after the text
 --   Writes P old at new r     the same for some text of the kind P

@@ -9,7 +9,6 @@
 --   enters_zero, enters_suc   the first step inside, known by two numerators
 --   inside_iff       the distance is 0 exactly from -q to 0
 use mathlib.Core.Path.{◌≡◌, refl, sym, ap, ap₂, ◌∙◌, subst}
-use mathlib.Core.Bool.{true, false}
 use mathlib.Core.Logic.{◌⊎◌, inl, inr, ◌↔◌}
 use Prim.Native.Nat.{ℕ, zero, suc, ◌+◌, ◌-◌, ◌*◌, ◌/◌, ◌%◌, ◌^◌, ◌≤◌, ◌<◌, min}
 use native.Mathlib.Omega.{arith}
@@ -17,9 +16,7 @@ use native.Mathlib.Nat.{add-zero, zero-add, add-suc, suc-add}
 use native.Mathlib.Numerals.{add-one}
 use native.Mathlib.Decide.{ℕ_discrete}
 use lib.IntN.{ℤ, pos, negsuc, neg_ℤ, nat_abs}
-use lib.Dec.{T}
-use borrow.Author.Tests.{ltb-false}
-use lib.Signed.{◌≤ℤ◌, lt_z}
+use lib.Signed.{◌≤ℤ◌}
 use Rattle.integers.proofs.Finite.{least, le_or_gt}
 use Rattle.integers.proofs.Parts.{up, down, nat_abs_is, le_of, le_to, up_neg, down_neg, parts}
 use Rattle.fractions.specs.Expansion.{next_num, iter_num}
@@ -208,13 +205,3 @@ leads_end q p n d w l = record { holds = sym w.is ∙ none d l; first = w.first 
     none : (d : ℕ) → (0 < d → ⊥) → d ≡ 0
     none zero l = refl
     none (suc d) l = absurd (l (omega arith))
-
--- ---- the distance by the size, as code finds it
-pub dist_above : (q : ℕ) (p : ℤ) → lt_z (pos 0) p ≡ true → nat_abs p ≡ dist q p
-dist_above q (pos n) e = refl
-dist_above q (negsuc n) e = absurd (subst T (sym e) tt)
-
-pub dist_below : (q : ℕ) (p : ℤ) → lt_z (pos 0) p ≡ false → nat_abs p - q ≡ dist q p
-dist_below q (pos zero) e = omega arith
-dist_below q (pos (suc n)) e = absurd (omega (arith, ltb-false 0 (suc n) e))
-dist_below q (negsuc n) e = refl

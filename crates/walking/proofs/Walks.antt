@@ -29,8 +29,10 @@ use Rattle.periods.specs.Orders.{Order}
 use Rattle.periods.proofs.Orders.{order_exists, order_most}
 use Rattle.walking.specs.Walks.{Loops, states_of, Walks, walked, invalid, past, number_of, lead_in_of, period_of, sum_of}
 use Rattle.walking.specs.Inner.{dist, Enters}
-use Rattle.walking.specs.declared.Walked.{Walked}
-use Rattle.walking.specs.declared.Walked.TheVariants.{Loop, Invalid, Past}
+use Rattle.std.specs.Prelude.{Result, Ok, Err}
+use Rattle.walking.specs.declared.Way.{Way}
+use Rattle.walking.specs.declared.Refusal.{Refusal}
+use Rattle.walking.specs.declared.Refusal.TheVariants.{Invalid, Past}
 use Rattle.walking.proofs.LeadIn.{outside_once, enters_exists, enters_within, inside_iff}
 use Rattle.walking.proofs.Round.{round_iff}
 use Rattle.fractions.proofs.Lowest.{lowest_exists, lowest_odd}
@@ -142,14 +144,14 @@ walks_unique (past L T w y i) (invalid b) = absurd (b w)
 walks_unique (past L T w y i) (past L' T' v x h) = (refl, refl, refl, refl)
 
 -- the cases of an answer differ in their numbers
-pub walk_unique : (g : Register) (allowance : ℕ) (r s : Walked) → Walks g allowance (number_of r) (lead_in_of r) (period_of r) (sum_of r)
+pub walk_unique : (g : Register) (allowance : ℕ) (r s : Result Way Refusal) → Walks g allowance (number_of r) (lead_in_of r) (period_of r) (sum_of r)
     → Walks g allowance (number_of s) (lead_in_of s) (period_of s) (sum_of s) → r ≡ s
-walk_unique g a (Loop l t n) (Loop m u k) x y = let z = walks_unique x y in λ i. Loop (z.1 i) (z.2 i) (z.3 i)
-walk_unique g a (Loop l t n) Invalid x y = absurd (omega (arith, (walks_unique x y).0))
-walk_unique g a (Loop l t n) Past x y = absurd (omega (arith, (walks_unique x y).0))
-walk_unique g a Invalid (Loop l t n) x y = absurd (omega (arith, (walks_unique x y).0))
-walk_unique g a Invalid Invalid x y = refl
-walk_unique g a Invalid Past x y = absurd (omega (arith, (walks_unique x y).0))
-walk_unique g a Past (Loop l t n) x y = absurd (omega (arith, (walks_unique x y).0))
-walk_unique g a Past Invalid x y = absurd (omega (arith, (walks_unique x y).0))
-walk_unique g a Past Past x y = refl
+walk_unique g a (Ok w) (Ok v) x y = let z = walks_unique x y in λ i. Ok (record { lead_in = z.1 i; period = z.2 i; sum = z.3 i })
+walk_unique g a (Ok w) (Err Invalid) x y = absurd (omega (arith, (walks_unique x y).0))
+walk_unique g a (Ok w) (Err Past) x y = absurd (omega (arith, (walks_unique x y).0))
+walk_unique g a (Err Invalid) (Ok v) x y = absurd (omega (arith, (walks_unique x y).0))
+walk_unique g a (Err Invalid) (Err Invalid) x y = refl
+walk_unique g a (Err Invalid) (Err Past) x y = absurd (omega (arith, (walks_unique x y).0))
+walk_unique g a (Err Past) (Ok v) x y = absurd (omega (arith, (walks_unique x y).0))
+walk_unique g a (Err Past) (Err Invalid) x y = absurd (omega (arith, (walks_unique x y).0))
+walk_unique g a (Err Past) (Err Past) x y = refl

@@ -5,51 +5,68 @@
 // denominator in lowest terms.
 #![tactic(auto)]
 
-ghost use Rattle.std.specs.Prelude.{◌≡◌, ◌%◌, ◌^◌, ◌≤◌, ◌<◌, nat_abs};
-ghost use Rattle.registers.specs.Registers.{Valid};
-ghost use Rattle.walking.specs.Walks.{Loops, states_of, Walks, number_of, lead_in_of, period_of, sum_of};
+ghost use Rattle.std.specs.Prelude.{◌≡◌, ◌+◌, ◌%◌, ◌^◌, ◌≤◌, ◌<◌, nat_abs};
+ghost use Rattle.walking.specs.Walks.{refusal_number, Loops, states_of, Walks, number_of, lead_in_of, period_of, sum_of};
 ghost use Rattle.walking.specs.Inner.{dist, nearer, Enters};
+ghost use Rattle.walking.specs.declared.Refusal.TheVariants as Reason;
 
-use registers::Register;
+use refusals::Numbered;
+use registers::{Register, ValidRegister};
 
-// Lead-in, period and their sum; or refusal 5, the register is not valid, or 6, the sum exceeds the allowance.
-#[derive(Clone, Copy)]
-pub enum Walked {
-    Loop(u32, u32, u32),
+// Lead-in and period, and their sum.
+#[derive(Clone, Copy, PartialEq, Eq)]
+pub struct Way {
+    pub lead_in: u32,
+    pub period: u32,
+    pub sum: u32,
+}
+
+// The register is not valid; the sum exceeds the allowance.
+#[derive(Clone, Copy, PartialEq, Eq)]
+pub enum Refusal {
     Invalid,
     Past,
 }
 
-// Lead-in and period.
-#[derive(Clone, Copy)]
-struct Way {
-    lead_in: u32,
-    period: u32,
+impl Numbered for Refusal {
+    ghost number = { refusal_number };
+
+    fn number(self) -> u32 {
+        match self {
+            Refusal::Invalid => 5,
+            Refusal::Past => 6,
+        }
+    }
+}
+
+impl From<registers::Invalid> for Refusal {
+    ghost from_gives = { λ _ r. r ≡ Reason.Invalid };
+
+    fn from(_e: registers::Invalid) -> Self {
+        Self::Invalid
+    }
 }
 
 // How far p stands outside -q .. 0.
 fn distance(q: u32, p: i64) -> u64
     ensures { result ≡ dist q p }
 {
-    let size = integers::magnitude(p);
+    let size = p.unsigned_abs();
     if 0 < p {
-        return size;
+        size
+    } else {
+        size.saturating_sub(u64::from(q))
     }
-    let room = q as u64;
-    if room < size { size - room } else { 0 }
 }
 
 // The distance one step later.
 fn step_nearer(q: u32, d: u64) -> u64
     ensures { result ≡ nearer q d }
 {
-    let less = q as u64;
     if d % 2 == 0 {
         d / 2
-    } else if d < less {
-        0
     } else {
-        (d - less) / 2
+        d.saturating_sub(u64::from(q)) / 2
     }
 }
 
@@ -60,6 +77,7 @@ fn lead_in(q: u32, p: i64) -> u32
 {
     let mut d = distance(q, p);
     let mut n: u32 = 0;
+    // No `for`: n is the answer, not an index; `successors(..).take(62).position(..)` would need a bound, an `unwrap` and a cast
     while 0 < d {
         d = step_nearer(q, d);
         n += 1;
@@ -67,33 +85,30 @@ fn lead_in(q: u32, p: i64) -> u32
     n
 }
 
-// Lead-in and period of a valid register.
-fn way_of(g: Register) -> Way
-    requires { Valid g }
-    ensures { (result.lead_in ≤ 61) × (result.period < 2 ^ 30) × Loops (states_of g) result.lead_in result.period }
+// The way of a valid register, whatever the allowance.
+fn way_of(v: ValidRegister) -> Way
+    ensures { (result.sum ≡ result.lead_in + result.period) × Loops (states_of v.register) result.lead_in result.period }
 {
-    let q = g.q;
-    let p = registers::numerator(g);
-    let lowest = fractions::lowest_terms(p, q as u64);
+    let q = v.register.q;
+    let p = v.numerator();
+    let lowest = fractions::lowest_terms(p, u64::from(q));
+    let lead_in = lead_in(q, p);
+    let period = periods::order::of_two(lowest.q as u32);
     Way {
-        lead_in: lead_in(q, p),
-        period: periods::order::of_two(lowest.q as u32),
+        lead_in,
+        period,
+        sum: lead_in + period,
     }
 }
 
 // The walk of a register: lead-in, period and their sum, where that is within the allowance.
-pub fn walk(g: Register, allowance: u32) -> Walked
+pub fn walk(g: Register, allowance: u32) -> Result<Way, Refusal>
     ensures { Walks g allowance (number_of result) (lead_in_of result) (period_of result) (sum_of result) }
 {
-    if registers::is_valid(g) {
-        let way = way_of(g);
-        let sum = way.lead_in + way.period;
-        if allowance < sum {
-            Walked::Past
-        } else {
-            Walked::Loop(way.lead_in, way.period, sum)
-        }
+    let way = way_of(ValidRegister::try_from(g)?);
+    if allowance < way.sum {
+        Err(Refusal::Past)
     } else {
-        Walked::Invalid
+        Ok(way)
     }
 }

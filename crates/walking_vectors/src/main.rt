@@ -4,33 +4,21 @@
 // A case: its name; q, cells and memory; the allowance.
 #![tactic(auto)]
 
-use registers::Register;
-use walking::Walked;
+use walking::{Refusal, Way};
 
-fn report(answer: Walked) {
-    match answer {
-        Walked::Loop(lead_in, period, sum) => {
-            show::field(0);
-            show::field(lead_in as u64);
-            show::field(period as u64);
-            show::field(sum as u64);
-        }
-        Walked::Invalid => show::field(5),
-        Walked::Past => show::field(6),
+fn report(answer: Result<Way, Refusal>) {
+    show::field(refusals::number_of(answer));
+    if let Ok(way) = answer {
+        show::field(way.lead_in);
+        show::field(way.period);
+        show::field(way.sum);
     }
     show::line_end();
 }
 
 fn run() {
     cases::name();
-    let q = cases::word();
-    let cells = cases::word();
-    let memory = cases::signed();
-    let register = Register {
-        q: q,
-        cells: cells,
-        memory: memory,
-    };
+    let register = cases::register();
     report(walking::walk(register, cases::word()));
 }
 

@@ -2,7 +2,8 @@
 --
 --   whitens_unique      register and bytes have one answer, one register after, and one list of bytes after
 --   whitens_expansion   the bytes after are the bytes before exclusive-or the digits of num(g)/q, byte by byte, the register 8·n steps on
---   white_number        .. and as one number: the first 8·n digits at once
+--   white_emitted       .. and as one number: the first 8·n bits at once
+--   white_number        .. which are the first 8·n digits
 --   whitens_twice       from the same register again: the first bytes come back
 --   whitens_append      a, then b from the register after a, is a ++ b
 --   whitens_none        no bytes: no steps
@@ -71,21 +72,21 @@ whitens_expansion g xs h ys (whitened v l) =
     }
 
 -- as one number, lowest byte first
-pub white_number : (g : Register) (xs : List ℕ) → Valid g → Below 256 xs → num 256 (white_of g xs) ≡ bit_xor (num 256 xs) (digits_to g.q (8 * length xs) (num_of g))
+pub white_emitted : (g : Register) (xs : List ℕ) → Below 256 xs → num 256 (white_of g xs) ≡ bit_xor (num 256 xs) (out_to (8 * length xs) g)
 unfolding num white_of out_to
-white_number g xs v b = go g xs b ∙ ap (bit_xor (num 256 xs)) (emits (8 * length xs) g v)
-  where
-    go : (g : Register) (xs : List ℕ) → Below 256 xs → num 256 (white_of g xs) ≡ bit_xor (num 256 xs) (out_to (8 * length xs) g)
-    go g [] b = refl
-    go g (x ∷ xs) b =
-        let n = num 256 xs in
-        let o = out_to 8 g in
-        let r = out_to (8 * length xs) (iter_of 8 g) in
-        let e : 8 * suc (length xs) ≡ 8 + 8 * length xs = omega arith in
-        let f : out_to (8 * suc (length xs)) g ≡ r * 256 + o = ap (λ (k : ℕ). out_to k g) e ∙ out_add 8 (8 * length xs) g ∙ omega arith in
-        let s : x + 256 * n ≡ n * 256 + x = omega arith in
-        ap (λ (k : ℕ). bit_xor x o + 256 * k) (go (iter_of 8 g) xs (λ i. b (suc i)))
-        ∙ omega (arith, xor_block 8 n r x o (b 0) (out_lt 8 g), ap₂ bit_xor s f)
+white_emitted g [] b = refl
+white_emitted g (x ∷ xs) b =
+    let n = num 256 xs in
+    let o = out_to 8 g in
+    let r = out_to (8 * length xs) (iter_of 8 g) in
+    let e : 8 * suc (length xs) ≡ 8 + 8 * length xs = omega arith in
+    let f : out_to (8 * suc (length xs)) g ≡ r * 256 + o = ap (λ (k : ℕ). out_to k g) e ∙ out_add 8 (8 * length xs) g ∙ omega arith in
+    let s : x + 256 * n ≡ n * 256 + x = omega arith in
+    ap (λ (k : ℕ). bit_xor x o + 256 * k) (white_emitted (iter_of 8 g) xs (λ i. b (suc i)))
+    ∙ omega (arith, xor_block 8 n r x o (b 0) (out_lt 8 g), ap₂ bit_xor s f)
+
+pub white_number : (g : Register) (xs : List ℕ) → Valid g → Below 256 xs → num 256 (white_of g xs) ≡ bit_xor (num 256 xs) (digits_to g.q (8 * length xs) (num_of g))
+white_number g xs v b = white_emitted g xs b ∙ ap (bit_xor (num 256 xs)) (emits (8 * length xs) g v)
 
 -- ---- twice
 pub white_twice : (g : Register) (xs : List ℕ) → white_of g (white_of g xs) ≡ xs

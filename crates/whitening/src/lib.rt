@@ -1,153 +1,117 @@
 // Whitening: bytes combined with what a register emits. The contracts cite Whitening of specs/.
 #![tactic(auto)]
 
-ghost use Rattle.std.specs.Prelude.{◌≡◌, ◌+◌, ◌*◌, ◌/◌, ◌%◌, ◌^◌, ◌≤◌, ◌<◌, nat_abs, length};
-ghost use Rattle.registers.specs.Registers.{Valid, iter_of};
-ghost use Rattle.registers.specs.declared.Register.{Register};
-ghost use Rattle.whitening.specs.Whitening.{white_of, Whitens};
-ghost use Rattle.fractions.specs.Inner.{Offset};
-ghost use Rattle.whitening.specs.Inner.{Taken, Carries, Carried, mix_at, mix_word};
+ghost use Rattle.std.specs.Prelude.{◌≡◌, ◌*◌, length};
+ghost use Rattle.std.specs.Int.{w32, from_le_bytes, to_le_bytes};
+ghost use Rattle.std.specs.Int.Bits.{bit_xor};
+ghost use Rattle.refusals.specs.Refusals.{field_of};
+ghost use Rattle.registers.specs.Registers.{iter_of};
+ghost use Rattle.whitening.specs.Whitening.{refusal_number, number_of, white_of, Whitens};
+ghost use Rattle.whitening.specs.declared.Refusal.TheVariants as Reason;
 
-use registers::Register;
+mod expansion;
+
+use expansion::Expansion;
+use refusals::Numbered;
+use registers::{Register, ValidRegister};
 
 // The most bytes to whiten in one call.
 pub const MOST: usize = 512;
 
-// A numerator p is carried as p + 2^62, so that division and remainder are those of natural numbers: p/w rounded down is a shift.
-const OFFSET: u64 = 4611686018427387904;
+// The register is not valid; more than MOST bytes.
+#[derive(Clone, Copy, PartialEq, Eq)]
+pub enum Refusal {
+    Invalid,
+    TooLong,
+}
 
-const SIGNED_OFFSET: i64 = 4611686018427387904;
+impl Numbered for Refusal {
+    ghost number = { refusal_number };
 
-// What 32 digits, and 8, leave room for.
-const WORD: u64 = 4294967296;
+    fn number(self) -> u32 {
+        match self {
+            Refusal::Invalid => 5,
+            Refusal::TooLong => 9,
+        }
+    }
+}
 
-const BYTE: u64 = 256;
+impl From<registers::Invalid> for Refusal {
+    ghost from_gives = { λ _ r. r ≡ Reason.Invalid };
 
-// The refusal, or 0, and the register afterwards.
+    fn from(_e: registers::Invalid) -> Self {
+        Self::Invalid
+    }
+}
+
+// Whether the bytes were whitened, and the register afterwards.
 #[derive(Clone, Copy)]
 pub struct Whitened {
-    pub refusal: u32,
+    pub done: Result<(), Refusal>,
     pub register: Register,
 }
 
-// The next digits, first digit lowest, and the numerator after them.
-#[derive(Clone, Copy)]
-struct Digits {
-    bits: u64,
-    next: u64,
+// Four bytes with 32 digits.
+fn mix_word(word: &mut [u8], digits: u32)
+    requires { length word.old ≡ 4 }
+    ensures { word.new ≡ to_le_bytes w32 (bit_xor (from_le_bytes w32 word.old) digits) }
+{
+    let mixed = u32::from_le_bytes(*word.as_array().unwrap()) ^ digits;
+    word.copy_from_slice(&mixed.to_le_bytes());
 }
 
-// A valid register's numerator, carried: it is below 2^61 in size, so nothing wraps.
-fn offset_of(p: i64) -> u64
-    requires { nat_abs p < 2 ^ 61 }
-    ensures { Offset result p }
+// The bytes whitened, 32 digits of the register's expansion at a time and then 8, and the register after them.
+fn whiten_valid(v: ValidRegister, bytes: &mut [u8]) -> ValidRegister
+    ensures { (result.register ≡ iter_of (8 * length bytes.old) v.register) × (bytes.new ≡ white_of v.register bytes.old) }
 {
-    (p + SIGNED_OFFSET) as u64
-}
-
-// The next digits of p/q, as many as w = 2^k leaves room for: the numerator times v, the inverse of q, modulo w. One function for
-// 32 digits and for 8: it is inlined, and where w is a constant its divisions are shifts.
-fn next_digits(p: u64, q: u64, v: u64, w: u64) -> Digits
-    requires { (p < 2 ^ 63) × (q < 2 ^ 30) × (v < 2 ^ 32) × (1 < w) × (w ≤ 2 ^ 32) }
-    ensures { Taken p q v w result.bits result.next }
-{
-    let u = p % w * v % w;
-    Digits {
-        bits: u,
-        next: p / w + (OFFSET - OFFSET / w) - u * q / w,
+    let mut left = Expansion::new(v);
+    let words = bytes.len() / 4;
+    // By an index: of `as_chunks_mut`, `chunks_exact_mut` and a loop over `split_first_chunk_mut` it is not proved what the bytes end as
+    for i in 0..words {
+        mix_word(
+            &mut bytes[4 * i..4 * i + 4],
+            left.next_digits::<32>() as u32,
+        );
     }
-}
-
-// A byte with the low eight bits of u.
-fn mix_byte(bytes: &mut [u8], i: usize, u: u64)
-    requires { i < length bytes.old }
-    ensures { bytes.new ≡ mix_at bytes.old i (u % 256) }
-{
-    bytes[i] = bytes[i] ^ ((u % BYTE) as u8);
-}
-
-// Four bytes with the 32 bits of u.
-fn mix_word(bytes: &mut [u8], i: usize, u: u64)
-    requires { i + 4 ≤ length bytes.old }
-    ensures { bytes.new ≡ mix_word bytes.old i u }
-{
-    mix_byte(bytes, i, u);
-    mix_byte(bytes, i + 1, u / 256);
-    mix_byte(bytes, i + 2, u / 65536);
-    mix_byte(bytes, i + 3, u / 16777216);
-}
-
-// The numerator that p carries.
-fn numerator_of(p: u64) -> i64
-    requires { p < 2 ^ 63 }
-    ensures { Offset p result }
-{
-    p as i64 - SIGNED_OFFSET
-}
-
-// The register of q whose numerator p carries.
-fn register_of(p: u64, q: u32) -> Register
-    requires { Carried p q }
-    ensures { Carries p q result }
-{
-    registers::register_of(numerator_of(p), q)
-}
-
-// Whitening from a valid register: 32 bits of its expansion at a time, then 8.
-fn whiten_valid(register: Register, bytes: &mut [u8]) -> Register
-    requires { Valid register }
-    ensures { (result ≡ iter_of (8 * length bytes.old) register) × (bytes.new ≡ white_of register bytes.old) }
-{
-    let q = register.q as u64;
-    let v = integers::inverse(q) % WORD;
-    let mut p = offset_of(registers::numerator(register));
-    let mut i = 0;
-    while i + 4 <= bytes.len() {
-        let d = next_digits(p, q, v, WORD);
-        mix_word(bytes, i, d.bits);
-        p = d.next;
-        i += 4;
+    for byte in &mut bytes[4 * words..] {
+        *byte ^= left.next_digits::<8>() as u8;
     }
-    while i < bytes.len() {
-        let d = next_digits(p, q, v, BYTE);
-        mix_byte(bytes, i, d.bits);
-        p = d.next;
-        i += 1;
+    left.register()
+}
+
+// The register after the bytes, which are whitened; or the refusal, and then they are as they were.
+fn register_after(register: Register, bytes: &mut [u8]) -> Result<Register, Refusal>
+    ensures { Whitens register bytes.old (number_of result) (field_of register (λ g. g) result) bytes.new }
+{
+    let valid = ValidRegister::try_from(register)?;
+    if MOST < bytes.len() {
+        return Err(Refusal::TooLong);
     }
-    register_of(p, register.q)
+    Ok(whiten_valid(valid, bytes).register)
 }
 
 // Each byte combined by exclusive or with the next eight bits that the register emits, and the register after them. A register that is not
 // valid is refused with 5, more than MOST bytes with 9; then the bytes are as they were, and the register comes back as it was given.
 pub fn whiten_by(register: Register, bytes: &mut [u8]) -> Whitened
-    ensures { Whitens register bytes.old result.refusal result.register bytes.new }
+    ensures { Whitens register bytes.old (number_of result.done) result.register bytes.new }
 {
-    if registers::is_valid(register) {
-        if bytes.len() <= MOST {
-            let next = whiten_valid(register, bytes);
-            Whitened {
-                refusal: 0,
-                register: next,
-            }
-        } else {
-            Whitened {
-                refusal: 9,
-                register: register,
-            }
-        }
-    } else {
-        Whitened {
-            refusal: 5,
-            register: register,
-        }
+    match register_after(register, bytes) {
+        Ok(next) => Whitened {
+            done: Ok(()),
+            register: next,
+        },
+        Err(refusal) => Whitened {
+            done: Err(refusal),
+            register,
+        },
     }
 }
 
-// The same on the caller's register, which is left stepped eight times for each byte: a refusal, or 0.
-pub fn whiten(register: &mut Register, bytes: &mut [u8]) -> u32
-    ensures { Whitens register.old bytes.old result register.new bytes.new }
+// The same on the caller's register, which is left stepped eight times for each byte.
+pub fn whiten(register: &mut Register, bytes: &mut [u8]) -> Result<(), Refusal>
+    ensures { Whitens register.old bytes.old (number_of result) register.new bytes.new }
 {
     let t = whiten_by(*register, bytes);
     *register = t.register;
-    t.refusal
+    t.done
 }

@@ -8,11 +8,8 @@ use registers::Register;
 // Prints the refusal, the register afterwards, and a checksum of the bytes afterwards.
 fn whiten(register: Register, bytes: &mut [u8]) {
     let w = whitening::whiten_by(register, bytes);
-    let after = w.register;
-    show::field(w.refusal as u64);
-    show::field(after.q as u64);
-    show::field(after.cells as u64);
-    show::signed_field(after.memory);
+    show::field(refusals::number_of(w.done));
+    show::register(w.register);
     show::checksum_field(bytes);
     show::line_end();
 }
@@ -21,15 +18,7 @@ fn run() {
     cases::name();
     let mut bytes = [0u8; 513];
     let n = cases::bytes(&mut bytes);
-    let q = cases::word();
-    let cells = cases::word();
-    let memory = cases::signed();
-    let register = Register {
-        q: q,
-        cells: cells,
-        memory: memory,
-    };
-    whiten(register, &mut bytes[..n]);
+    whiten(cases::register(), &mut bytes[..n]);
 }
 
 fn main() {

@@ -2,8 +2,7 @@
 use mathlib.Core.List.{List}
 use Prim.Native.Nat.{ℕ}
 use native.Mathlib.Omega.{arith}
-use Rattle.antennas.specs.declared.About.{About}
-use Rattle.antennas.specs.Antennas.{Read}
+use Rattle.antennas.specs.Antennas.{About, Read}
 use Rattle.antennas.proofs.Laws.{read_within}
 use Rattle.flat.specs.Flat.{NarrowRecord}
 use Rattle.capi.proofs.cj_read.Goals as goal

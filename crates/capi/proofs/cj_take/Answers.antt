@@ -3,8 +3,7 @@ use mathlib.Core.Path.{◌≡◌, ap}
 use mathlib.Core.List.{List}
 use Prim.Native.Nat.{ℕ}
 use native.Mathlib.Omega.{arith}
-use Rattle.store.specs.Taking.{take_of, place_of}
-use Rattle.store.specs.declared.Answer.{Answer}
+use Rattle.store.specs.Taking.{Answer, take_of, place_of}
 use Rattle.store.proofs.Positions.{take_place}
 use Rattle.flat.specs.Flat.{NarrowPlace}
 use Rattle.capi.proofs.cj_take.Goals as goal

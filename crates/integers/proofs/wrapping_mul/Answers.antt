@@ -1,5 +1,5 @@
 -- `integers::wrapping_mul` meets its contract: what its products and its sum ensure, joined by the law of products by halves.
-use Rattle.std.proofs.Common.{◌≡◌, ℕ, ◌+◌, ◌*◌, ◌/◌, ◌%◌, ap, ◌∙◌, ap₂, div-add-mod'}
+use Rattle.std.proofs.Common.{◌≡◌, ℕ, ◌+◌, ◌*◌, ◌/◌, ◌%◌, ap, ◌∙◌, ap₂, div-add-mod', refl}
 use Rattle.integers.proofs.Modulo.{mul_halves}
 use Rattle.integers.proofs.wrapping_mul.Goals as goal
 
@@ -12,4 +12,4 @@ joined H a b u v w r eu ev ew e =
     ∙ ap₂ (λ (x y : ℕ). x * y % (H * H)) (div-add-mod' a H) (div-add-mod' b H)
 
 pub returns : goal.returns
-returns c = joined 4294967296 _ _ _ _ _ _ c.product.ensures c.product-2.ensures c.product-3.ensures c.wrapping_add_u64.ensures.value
+returns c = joined 4294967296 _ _ _ _ _ _ c.product.ensures c.product-2.ensures c.product-3.ensures refl

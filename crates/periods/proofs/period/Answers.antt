@@ -10,10 +10,7 @@ read : (xs : List ℕ) (x q : ℕ) → x ≡ get_or xs (q / 2) 0 → every right
 read xs x q e t o m l = subst (λ y. Periods q 0 y) (sym e) (entry_period xs q t o m l)
 
 pub returns-then-q-eq0 : goal.returns-then-q-eq0
-returns-then-q-eq0 c = outside (λ i. omega (arith, i.odd))
-
-pub returns-then-q-gt-LAST : goal.returns-then-q-gt-LAST
-returns-then-q-gt-LAST c = outside (λ i. omega (arith, i.most))
+returns-then-q-eq0 c = outside (λ i. omega (arith, c.then-q-eq0.either, i.odd, i.most))
 
 pub returns : goal.returns
-returns c = read PERIODS c.wide.result c.args.q c.wide.ensures refl (omega arith) (omega arith) (omega arith)
+returns c = read PERIODS c.from.result c.args.q c.from.ensures refl (omega arith) (omega arith) (omega arith)

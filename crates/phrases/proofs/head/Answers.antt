@@ -1,7 +1,8 @@
 -- `phrases::head` meets its contract: two fields, one behind the other.
-use Rattle.phrases.proofs.Pieces.{piece_then}
-use borrow.Author.Rules.{rules}
+use native.Mathlib.Omega.{arith}
+use Rattle.std.proofs.Common.{append_assoc}
+use Rattle.text.proofs.Digits.{decimal_is}
 use Rattle.phrases.proofs.head.Goals as goal
 
-pub returns : goal.returns
-returns c = piece_then c.field-next.ensures (search rules) c.field.ensures
+pub returns-clause-text : goal.returns-clause-text
+returns-clause-text g c = rw (c.field-2.ensures.text, c.field.ensures.text, decimal_is c.args.first (omega arith), decimal_is c.args.second (omega arith)) (simp append_assoc)

@@ -1,11 +1,8 @@
--- `phrases::refused` meets its contract: the word, then a number of at most ten digits.
+-- `phrases::refused` meets its contract: the word, then the number.
 use native.Mathlib.Omega.{arith}
-use Rattle.phrases.proofs.Pieces.{decimal_short, decimal_piece, word_piece, piece_then}
-use borrow.Author.Rules.{rules}
+use Rattle.std.proofs.Common.{append_assoc}
+use Rattle.text.proofs.Digits.{decimal_is}
 use Rattle.phrases.proofs.refused.Goals as goal
 
-pub number-requires : goal.number-requires
-number-requires c = omega (arith, decimal_short c.args.number (search rules))
-
-pub returns : goal.returns
-returns c = piece_then (word_piece c.word-next.ensures) (search rules) (decimal_piece (search rules) c.number.ensures)
+pub returns-clause-text : goal.returns-clause-text
+returns-clause-text g c = rw (c.push_str-2.ensures.bytes, c.push_str.ensures.bytes, c.format.ensures.text, decimal_is c.args.number (omega arith)) (simp append_assoc)

@@ -1,23 +1,21 @@
--- `places::is_store` meets its contract: the places from `at` on decide. The measure is the bytes left.
-use mathlib.Core.Path.{sym, ◌∙◌}
-use borrow.Author.Tests.{ne_eqb}
-use Rattle.records.proofs.Cond.{no}
-use Rattle.places.specs.Places.{is_store}
-use Rattle.places.proofs.Laws.{checked_start, checked_no, checked_more, checked_all}
+-- `places::is_store` meets its contract: the bytes are 32 places, and each is judged by its own bytes.
+use Prim.Native.Nat.{ℕ, ◌/◌}
+use mathlib.Core.Path.{◌≡◌, sym, ap, ◌∙◌}
+use native.Mathlib.Omega.{arith}
+use lib.ListN.{length}
+use borrow.Author.Tests.{eq-eqb}
+use Rattle.std.specs.List.{list_all}
+use Rattle.std.specs.Simd.{first_chunks}
+use Rattle.records.specs.Block.{meters}
+use Rattle.records.proofs.Cond.{yes}
+use Rattle.places.specs.Places.{place_size, store_size, is_place, is_store}
+use Rattle.places.proofs.Laws.{each_place}
 use Rattle.places.proofs.is_store.Goals as goal
 
-pub returns-then-store-ne-STORE_SIZE : goal.returns-then-store-ne-STORE_SIZE
+pub returns-then-store-eq-STORE_SIZE : goal.returns-then-store-eq-STORE_SIZE
 unfolding is_store
-returns-then-store-ne-STORE_SIZE c = sym (no _ _ (ne_eqb _ _ c.if-store-ne-STORE_SIZE.true))
-
-pub loop-at-init : goal.loop-at-init
-loop-at-init c = checked_start _ c.if-store-ne-STORE_SIZE.false
-
-pub returns-then-not-is_place : goal.returns-then-not-is_place
-returns-then-not-is_place c = checked_no _ c.loop-at.at c.loop-at.invariant c.loop-at-test.true (sym c.is_place.ensures ∙ c.if-not-is_place.true)
-
-pub loop-at-preserved : goal.loop-at-preserved
-loop-at-preserved c = checked_more _ c.loop-at.at c.loop-at.invariant c.loop-at-test.true (sym c.is_place.ensures ∙ c.if-not-is_place.false)
-
-pub returns : goal.returns
-returns c = checked_all _ c.loop-at.at c.loop-at.invariant c.loop-at-test.false
+returns-then-store-eq-STORE_SIZE c =
+    let s = c.args.store.now in
+    let n : length s / place_size ≡ meters = omega (arith, c.if-store-eq-STORE_SIZE.true) in
+    c.all_sound.ensures ∙ ap (list_all (λ p. is_place p 0)) c.as_chunks.ensures.front ∙ ap (λ (k : ℕ). list_all (λ p. is_place p 0) (first_chunks place_size k s)) n
+    ∙ each_place meters s 0 ∙ sym (yes _ _ (eq-eqb (length s) store_size c.if-store-eq-STORE_SIZE.true))

@@ -1,11 +1,7 @@
--- `reading::hex` meets its contract: after i turns the digits of the first i bytes are written. The measure is the bytes left.
-use Prim.Native.Nat.{◌-◌}
-use lib.ListN.{length}
-use Rattle.reading.proofs.Digits.{Hexing}
+-- `reading::hex` meets its contract: after i turns the digits of the first i bytes are written.
+use Rattle.std.proofs.Common.{◌≡◌, ◌++◌, take}
+use Rattle.reading.specs.Line.{hex_of}
 use Rattle.reading.proofs.hex.Given as goal
 
-abbrev pub invariant-loop-i : goal.invariant-loop-i
-invariant-loop-i l = Hexing l.initial.out l.at l.bytes l.out l.next l.i
-
-abbrev pub decreases-loop-i : goal.decreases-loop-i
-decreases-loop-i l = length l.bytes - l.i
+abbrev pub invariant-loop-byte : goal.invariant-loop-byte
+invariant-loop-byte l = l.out.bytes ≡ l.fn.out.bytes ++ hex_of (take l.byte-index l.bytes)

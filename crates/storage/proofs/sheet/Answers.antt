@@ -1,23 +1,18 @@
--- `storage::sheet` meets its contract: the cells by q alone, and the least width for the memory and w - 1.
-use mathlib.Core.Path.{sym, subst}
-use Prim.Native.Nat.{ℕ}
-use Rattle.integers.specs.Numbers.{Decides}
-use Rattle.integers.proofs.Sizes.{back32}
-use Rattle.registers.specs.Registers.{Valid}
+-- `storage::sheet` meets its contract: the sheet of a register that is valid, and any other is refused.
+use Rattle.std.proofs.Common.{subst}
+use Rattle.std.proofs.lemmas.Result.{err_from_is_err_and}
 use Rattle.storage.specs.Storage.{Sheets, sheet, invalid}
-use Rattle.storage.proofs.Memories.{ones_next}
+use Rattle.registers.specs.declared.Register.{Register}
 use Rattle.storage.proofs.sheet.Goals as goal
 
-pub overflow_sub-most : goal.overflow_sub-most
-overflow_sub-most c = ones_next _ _
+pub returns-in_err-try_from : goal.returns-in_err-try_from
+returns-in_err-try_from c =
+    let e = err_from_is_err_and c.from_residual.result c.from_residual.ensures.1 in
+    rw e.1 (invalid c.in_err-try_from.ensures)
 
-pub returns-then-is_valid : goal.returns-then-is_valid
-returns-then-is_valid c =
-    let is-valid : Valid c.args.g = subst (Decides (Valid c.args.g)) c.if-is_valid.true c.is_valid.ensures in
-    let g = c.args.g in
-    let v = is-valid in
-    let width = rw (back32 g.memory v.memory) at c.signed_width.ensures in
-    subst (λ (r : ℕ). Sheets g 0 r c.signed_width.result) (sym c.cell_count.ensures) (sheet v width)
-
-pub returns-else-is_valid : goal.returns-else-is_valid
-returns-else-is_valid c = invalid (subst (Decides (Valid c.args.g)) c.if-is_valid.false c.is_valid.ensures)
+pub returns : goal.returns
+returns c =
+    let is = c.in_ok-try_from.ensures in
+    let v = c.in_ok-try_from.field-0 in
+    let made : Sheets v.register 0 c.sheet_of.result.cells c.sheet_of.result.memory_bits = rw c.sheet_of.ensures.0 (sheet v.valid c.sheet_of.ensures.1) in
+    subst (λ (g : Register). Sheets g 0 c.sheet_of.result.cells c.sheet_of.result.memory_bits) is made

@@ -1,20 +1,21 @@
 -- `walking::walk` meets its contract: validity first, then the sum against the allowance.
-use mathlib.Core.Path.{refl, subst}
-use native.Mathlib.Omega.{arith}
-use Rattle.integers.specs.Numbers.{Decides}
+use Rattle.std.proofs.Common.{subst, arith}
+use Rattle.std.proofs.lemmas.Result.{err_from_is_err_and}
 use Rattle.registers.specs.Registers.{Valid}
 use Rattle.walking.specs.Walks.{walked, invalid, past}
 use Rattle.walking.proofs.walk.Goals as goal
 
-pub returns-then-allowance-sum : goal.returns-then-allowance-sum
-returns-then-allowance-sum c =
-    let valid : Valid c.args.g = subst (Decides (Valid c.args.g)) c.if-is_valid.true c.is_valid.ensures in
-    past _ _ valid c.way_of-way.ensures.2 (omega arith)
+pub returns-in_err-try_from : goal.returns-in_err-try_from
+returns-in_err-try_from c =
+    let e = err_from_is_err_and c.from_residual.result c.from_residual.ensures.1 in
+    rw (e.1, e.2) (invalid c.in_err-try_from.ensures)
 
-pub returns-else-allowance-sum : goal.returns-else-allowance-sum
-returns-else-allowance-sum c =
-    let valid : Valid c.args.g = subst (Decides (Valid c.args.g)) c.if-is_valid.true c.is_valid.ensures in
-    walked valid c.way_of-way.ensures.2 refl (omega arith)
+pub returns-then-allowance-way : goal.returns-then-allowance-way
+returns-then-allowance-way c =
+    let g = c.in_ok-try_from.ensures in
+    past _ _ (subst Valid g c.in_ok-try_from.field-0.valid) (rw g at c.way_of-way.ensures.1) (omega arith)
 
-pub returns-else-is_valid : goal.returns-else-is_valid
-returns-else-is_valid c = invalid (subst (Decides (Valid c.args.g)) c.if-is_valid.false c.is_valid.ensures)
+pub returns-else-allowance-way : goal.returns-else-allowance-way
+returns-else-allowance-way c =
+    let g = c.in_ok-try_from.ensures in
+    walked (subst Valid g c.in_ok-try_from.field-0.valid) (rw g at c.way_of-way.ensures.1) c.way_of-way.ensures.0 (omega arith)

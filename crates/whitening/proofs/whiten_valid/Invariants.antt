@@ -1,17 +1,12 @@
--- `whitening::whiten_valid` meets its contract: both loops keep the bytes done and the slow rule on the others, and the numerator at the end tells the register.
-use Prim.Native.Nat.{◌-◌}
-use lib.ListN.{length}
+-- `whitening::whiten_valid` meets its contract: the bytes that each loop has passed are whitened, and what is left of the expansion is the register's after them.
+use Rattle.std.proofs.Common.{◌*◌}
+use Rattle.bits.specs.Bits.{Below}
+use Rattle.registers.specs.Registers.{iter_of}
 use Rattle.whitening.proofs.Bytes.{Going}
 use Rattle.whitening.proofs.whiten_valid.Given as goal
 
 abbrev pub invariant-loop-i : goal.invariant-loop-i
-invariant-loop-i l = Going l.register l.initial.bytes l.initial.i l.bytes l.i l.p l.v
+invariant-loop-i l = Going l.fn.v.register l.initial.bytes (4 * l.i) l.bytes l.left × Below 256 l.initial.bytes
 
-abbrev pub decreases-loop-i : goal.decreases-loop-i
-decreases-loop-i l = length l.initial.bytes - l.i
-
-abbrev pub invariant-loop-i-2 : goal.invariant-loop-i-2
-invariant-loop-i-2 l = Going l.register l.initial.bytes l.initial.i l.bytes l.i l.p l.v
-
-abbrev pub decreases-loop-i-2 : goal.decreases-loop-i-2
-decreases-loop-i-2 l = length l.initial.bytes - l.i
+abbrev pub invariant-loop-byte : goal.invariant-loop-byte
+invariant-loop-byte l = Going (iter_of (8 * (4 * l.words)) l.fn.v.register) l.initial.byte-items l.byte-index l.byte-items l.left

@@ -1,13 +1,21 @@
 -- `listing::pieces::registered` meets its contract: four fields, one behind another.
-use mir.Syntax.{w32}
-use mir.ValLaws.{to_z-of_z}
-use Rattle.phrases.proofs.Pieces.{piece_then}
-use borrow.Author.Rules.{rules}
+use native.Mathlib.Omega.{arith}
+use Rattle.std.proofs.Common.{append_assoc}
+use Rattle.text.proofs.Digits.{decimal_is, signed_32_is, fits_32}
 use Rattle.listing.proofs.pieces.registered.Goals as goal
 
-pub returns : goal.returns
-returns c =
-    piece_then (rw (to_z-of_z w32 c.args.p c.ranges.p) at c.signed_field-second.ensures) (search rules)
-    (piece_then c.field-third.ensures (search rules)
-    (piece_then (rw c.cells.ensures at c.field-fourth.ensures) (search rules)
-    (rw (to_z-of_z w32 c.args.g.memory (record { sfits = c.struct_told-1.given.1.1.0.1 })) at c.signed_field.ensures)))
+pub returns-clause-text : goal.returns-clause-text
+returns-clause-text c =
+    let g = c.args.v.register in
+    let v = c.args.v.valid in
+    rw (
+      c.field-4.ensures.text,
+      c.field-3.ensures.text,
+      c.field-2.ensures.text,
+      c.field.ensures.text,
+      decimal_is c.sheet_of.result.cells (omega arith),
+      c.sheet_of.ensures.0,
+      signed_32_is c.args.p c.ranges.p,
+      decimal_is g.q (omega (arith, v.q_most)),
+      signed_32_is g.memory (fits_32 g.memory (omega (arith, v.memory))),
+    ) (simp append_assoc)

@@ -1,0 +1,2 @@
+-- Reading has what several reads consume of known bytes.
+pub mod Reading

@@ -1,2 +1,0 @@
--- Pieces has the laws of a line written piece by piece.
-pub mod Pieces
