@@ -1,5 +1,5 @@
 // A block from a reader, for programs. What a file or standard input gives no contract can say; of a reader whose bytes are known, over memory say, the
-// contract says that none is lost, changed or made up.
+// contract says that an answer is what they begin with: none is changed or made up. That all are there it does not say, since any read may fail.
 #![tactic(auto)]
 
 ghost use Rattle.std.specs.Prelude.{◌≤◌, length, take, IfOk, IfSome};
