@@ -214,12 +214,9 @@ pub fn from_taken(answer: Result<(), store::Refusal>) -> Taken
     requires { NarrowPlace answer }
     ensures { result ≡ flat_taken answer }
 {
-    match answer {
-        Ok(()) => Taken::default(),
-        Err(e) => Taken {
-            refusal: e.number(),
-            place: e.place() as u32,
-        },
+    Taken {
+        refusal: number_of(answer),
+        place: store::place(answer) as u32,
     }
 }
 

@@ -2,9 +2,9 @@
 --
 --   print_refused, print_taken   the two cases
 --   up_unique                    the lines of the meters 1 to k are determined by the store
---   prints_unique                a block has one listing
+--   prints_unique                a block has one listing, so any two results that meet the contract of `print` are equal, in every byte and in their length
 --   prints_exists                .. and always one
---   print_unique                 any two results that meet the contract of `print` are equal, in every byte and in their length
+--   print_unique                 .. and where it is put at the start of bytes, every byte and its length are determined
 use mathlib.Core.Path.{◌≡◌, refl, sym, ap, ap₂, ◌∙◌, subst}
 use mathlib.Core.List.{List, [], ◌++◌}
 use Prim.Native.Nat.{ℕ, zero, suc}

@@ -1,8 +1,8 @@
 -- A meter has one line, so two answers that meet a contract are the same; and a line can be read back.
 --
 --   last_unique    the last two fields are determined by the register
---   lines_unique   a meter has one line
---   line_unique    so every byte and the answer of `line` are determined
+--   lines_unique   a meter has one line, so the text that `line` answers is determined
+--   line_unique    .. and where it is put on bytes at a position, every byte and the position behind it
 --   row_unique     two rows that are equal have the same fields, none of which holds a space or a line end
 --   line_says      two lines that are equal say the same meter, count, p, q and memory
 use mathlib.Core.Path.{◌≡◌, refl, sym, ap, subst}

@@ -2,9 +2,9 @@
 --
 --   found_fits      a record's count and its part
 --   tells_malformed, tells_refused   a refusal is told by its number and its place, or by its number alone
---   tells_unique    a question has one line
+--   tells_unique    a question has one line: two results that meet the contract of `line` are equal
 --   tells_exists    .. and always one
---   line_unique     two results that meet the contract of `line` are equal
+--   line_unique     where it is put at the start of bytes, every byte and its length are determined
 use Prim.Native.Nat.{ℕ, ◌≤◌}
 use mathlib.Core.Path.{◌≡◌, refl, sym, ap, ◌∙◌, subst}
 use mathlib.Core.Logic.{◌⊎◌, ⊎_elim}

@@ -5,7 +5,7 @@ ghost use Rattle.std.specs.Prelude.{◌≡◌, true, Ok};
 ghost use Rattle.records.specs.Block.{parse};
 ghost use Rattle.places.specs.Places.{is_store, bits_of, encode_all};
 ghost use Rattle.room.specs.Rooms.{room_of};
-ghost use Rattle.store.specs.Taking.{append_all, take_of, refusal_number, refusal_place};
+ghost use Rattle.store.specs.Taking.{append_all, take_of, refusal_number, refusal_place, place_of};
 ghost use Rattle.store.specs.declared.Refusal.TheVariants.{Malformed, NoRoom};
 
 use places::Place;
@@ -59,6 +59,16 @@ impl Refusal {
             Refusal::Malformed(form) => form.place(),
             Refusal::NoRoom(at) => at,
         }
+    }
+}
+
+// The place that an answer returns, 0 for a block that was taken.
+pub fn place(answer: Result<(), Refusal>) -> usize
+    ensures { result ≡ place_of answer }
+{
+    match answer {
+        Ok(()) => 0,
+        Err(refusal) => refusal.place(),
     }
 }
 

@@ -33,12 +33,8 @@ fn take(bytes: &mut [u8]) {
     let mut block = [0u8; BLOCK];
     let n = cases::bytes(&mut block);
     let answer = store::take(bytes, &block[..n]);
-    let place = match answer {
-        Ok(()) => 0,
-        Err(refusal) => refusal.place(),
-    };
     show::field(refusals::number_of(answer));
-    show::field(place);
+    show::field(store::place(answer));
     show::checksum_field(bytes);
     show::line_end();
     print_counts(bytes);
