@@ -112,8 +112,7 @@ impl Header {
             return Err(Refusal::BadCount(at));
         }
         let start = at + HEADER;
-        // not `div_ceil`: where the next record starts hangs on this sum, and that is a step longer
-        let next = start + (self.count + 7) / 8;
+        let next = start + self.count.div_ceil(8);
         let Some(payload) = block.get(start..next) else {
             return Err(Refusal::RunsPast(at));
         };
